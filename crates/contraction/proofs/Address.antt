@@ -1,0 +1,127 @@
+-- The address at the index of four counts is the base and the four offsets.
+-- Assumes nothing.
+use mathlib.Core.Path.{_≡_, refl, ap, _∙_}
+use mathlib.Core.Bool.{Bool, true, false, cond}
+use mathlib.Core.List.{List, [], _∷_, map}
+use mathlib.Core.Logic.{_≢_}
+use Prim.Native.Nat.{ℕ, _+_, _*_, _-_, _/_, _%_}
+use native.Mathlib.Nat.{zero-add}
+use native.Mathlib.Omega.{arith}
+use lib.IntN.{ℤ}
+use lib.Dec.{T, eqb, eqb→eq}
+use Rattle.words.specs.Sums.{All}
+use Rattle.words.specs.Lists.{keep}
+use Rattle.words.specs.Words.{up, down}
+use Rattle.words.proofs.Lists.{all-map, all-imp, keep-passes, Unique, keep-unique, eqb-true, eqb-ne}
+use Rattle.layout.specs.declared.layout.Axis.{Axis}
+use Rattle.layout.specs.declared.layout.Layout.{Layout}
+use Rattle.layout.specs.Layout.{along, address}
+use Rattle.layout.specs.Labels.{labels}
+use Rattle.layout.proofs.Stride.{partOf, strideOf-parts}
+use Rattle.layout.proofs.ByLabel.{labels-unique}
+use Rattle.layout.proofs.Address.{along-zero}
+use Rattle.contraction.specs.Operands.{Operand, Shape, shape, together}
+use Rattle.contraction.specs.Groups.{Label, label, Group, batch, row, column, depth, groupOf, number, inGroup, group, offset, offsetIn}
+use Rattle.contraction.specs.Index.{assign, at, index, overGroups}
+
+-- the letter is none of the group's
+abbrev pub Fresh : ℕ → List Label → Type 0
+Fresh c g = All (λ l. eqb c (l .letter) ≡ false) g
+
+-- no letter stands twice
+abbrev pub Distinct : List Label → Type 0
+Distinct [] = Unit {0}
+Distinct (l ∷ g) = Fresh (l .letter) g × Distinct g
+
+pub at-fresh : (g : List Label) (n : ℕ) (ρ : ℕ → ℕ) (c : ℕ) → Fresh c g → at g n ρ c ≡ ρ c
+at-fresh [] n ρ c h = refl
+at-fresh (l ∷ g) n ρ c h = rw (h .0) (at-fresh g (n / l .extent) ρ c (h .1))
+
+module _ (part : ℤ → ℕ) where
+  along-assign : (xs : List Axis) (ρ : ℕ → ℕ) (c v : ℕ) → ρ c ≡ 0 → along part xs (assign ρ c v) ≡ along part xs ρ + v * partOf part xs c
+  along-assign [] ρ c v z = omega arith
+  along-assign (a ∷ xs) ρ c v z = go (eqb (a .letter) c) (λ t. ap ρ (eqb→eq (a .letter) c t) ∙ z) (along-assign xs ρ c v z)
+    where
+      go : (b : Bool) → (T b → ρ (a .letter) ≡ 0) → along part xs (assign ρ c v) ≡ along part xs ρ + v * partOf part xs c
+          → cond b v (ρ (a .letter)) * part (a .stride) + along part xs (assign ρ c v)
+          ≡ (ρ (a .letter) * part (a .stride) + along part xs ρ) + v * (cond b (part (a .stride)) 0 + partOf part xs c)
+      go true z e = rw (z tt) (omega arith)
+      go false z e = omega arith
+
+  along-at : (xs : List Axis) (g : List Label) (n : ℕ) (ρ : ℕ → ℕ) → Distinct g → All (λ l. ρ (l .letter) ≡ 0) g
+      → along part xs (at g n ρ) ≡ along part xs ρ + offset (λ l. partOf part xs (l .letter)) g n
+  along-at xs [] n ρ d z = omega arith
+  along-at xs (l ∷ g) n ρ d z =
+      along-assign xs (at g (n / l .extent) ρ) (l .letter) (n % l .extent) (at-fresh g (n / l .extent) ρ (l .letter) (d .0) ∙ z .0)
+      ∙ rw (along-at xs g (n / l .extent) ρ (d .1) (z .1)) (omega arith)
+
+-- ---- the groups of a contraction
+module _ (s : Shape) where
+  map-distinct : (cs : List ℕ) → Unique cs → Distinct (map (label s) cs)
+  map-distinct [] u = tt
+  map-distinct (c ∷ cs) u = (all-map _ (label s) cs (u .0), map-distinct cs (u .1))
+
+  pub group-distinct : (g : Group) → Distinct (group s g)
+  unfolding group
+  group-distinct g = map-distinct (keep (inGroup s g) (labels (together s))) (keep-unique (inGroup s g) (labels (together s)) (labels-unique (together s)))
+
+  -- each letter of a group is of that group
+  pub group-own : (g : Group) → All (λ l. number (groupOf s (l .letter)) ≡ number g) (group s g)
+  unfolding group inGroup
+  group-own g =
+      all-map (λ l. number (groupOf s (l .letter)) ≡ number g) (label s) (keep (inGroup s g) (labels (together s)))
+      (all-imp (λ c. eqb-true (number (groupOf s c)) (number g)) (keep (inGroup s g) (labels (together s))) (keep-passes (inGroup s g) (labels (together s))))
+
+  pub group-fresh : (g : Group) (c : ℕ) → number (groupOf s c) ≢ number g → Fresh c (group s g)
+  group-fresh g c h = all-imp (λ l e. eqb-ne c (l .letter) (λ p. h (ap (λ (x : ℕ). number (groupOf s x)) p ∙ e))) (group s g) (group-own g)
+
+  -- a count of one group leaves the letters of the others as they are
+  pub clear : (g : Group) (n : ℕ) (ρ : ℕ → ℕ) (c : ℕ) → number (groupOf s c) ≢ number g → at (group s g) n ρ c ≡ ρ c
+  clear g n ρ c h = at-fresh (group s g) n ρ c (group-fresh g c h)
+
+  module _ (part : ℤ → ℕ) (o : Operand) where
+    -- the part of a label's strides in a tensor
+    share : Label → ℕ
+    share l = partOf part (s o) (l .letter)
+
+    along-group : (g : Group) (n : ℕ) (ρ : ℕ → ℕ) → ((c : ℕ) → number (groupOf s c) ≡ number g → ρ c ≡ 0)
+        → along part (s o) (at (group s g) n ρ) ≡ along part (s o) ρ + offset share (group s g) n
+    unfolding share
+    along-group g n ρ z = along-at part (s o) (group s g) n ρ (group-distinct g) (all-imp (λ l. z (l .letter)) (group s g) (group-own g))
+
+    along-index : (n : Group → ℕ) → along part (s o) (index s n) ≡ overGroups (λ g. offset share (group s g) (n g))
+    unfolding index
+    along-index n =
+        along-group depth (n depth) _ (λ c e. clear batch (n batch) _ c (omega arith) ∙ clear row (n row) _ c (omega arith) ∙ clear column (n column) _ c (omega arith))
+        ∙ ap (λ (x : ℕ). x + offset share (group s depth) (n depth)) (along-group batch (n batch) _ (λ c e. clear row (n row) _ c (omega arith) ∙ clear column (n column) _ c (omega arith))
+        ∙ ap (λ (x : ℕ). x + offset share (group s batch) (n batch)) (along-group row (n row) _ (λ c e. clear column (n column) _ c (omega arith))
+        ∙ ap (λ (x : ℕ). x + offset share (group s row) (n row)) (along-group column (n column) _ (λ c e. refl)
+        ∙ rw (along-zero part (s o)) (zero-add _))))
+
+  balanced : (o : Operand) (cs : List ℕ) (n : ℕ)
+      → offsetIn up o (map (label s) cs) n + offset (share down o) (map (label s) cs) n ≡ offsetIn down o (map (label s) cs) n + offset (share up o) (map (label s) cs) n
+  unfolding share
+  balanced o [] n = refl
+  balanced o (c ∷ cs) n =
+      omega (arith, balanced o cs (n / label s c .extent), ap (λ (x : ℕ). n % label s c .extent * x) (strideOf-parts c (s o)))
+
+  group-balanced : (o : Operand) (g : Group) (n : ℕ)
+      → offsetIn up o (group s g) n + offset (share down o) (group s g) n ≡ offsetIn down o (group s g) n + offset (share up o) (group s g) n
+  unfolding group
+  group-balanced o g n = balanced o (keep (inGroup s g) (labels (together s))) n
+
+-- the address at four counts is the base and the four offsets
+pub address-index : (t : Operand → Layout) (o : Operand) (n : Group → ℕ)
+    → address (t o) (index (shape t) n)
+    ≡ (t o .base + overGroups (λ g. offsetIn up o (group (shape t) g) (n g))) - overGroups (λ g. offsetIn down o (group (shape t) g) (n g))
+unfolding address
+address-index t o n =
+    omega (
+      arith,
+      along-index (shape t) up o n,
+      along-index (shape t) down o n,
+      group-balanced (shape t) o batch (n batch),
+      group-balanced (shape t) o row (n row),
+      group-balanced (shape t) o column (n column),
+      group-balanced (shape t) o depth (n depth),
+    )

@@ -1,0 +1,16 @@
+pub mod Address
+pub mod Agree
+pub mod Digits
+pub mod FoldKeeps
+pub mod Foldable
+pub mod Folding
+pub mod Index
+pub mod LabelLists
+pub mod Nested
+pub mod Onto
+pub mod Ready
+pub mod Refusal
+pub mod Result
+pub mod Sets
+pub mod Starred
+pub mod Wrapped

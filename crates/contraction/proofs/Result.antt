@@ -1,0 +1,90 @@
+-- The result of an accepted contraction holds each output's value at its place, and the old words elsewhere.
+-- Assumes nothing.
+use mathlib.Core.Path.{_≡_, refl, sym, _∙_}
+use mathlib.Core.List.{List}
+use mathlib.Core.Logic.{_≢_}
+use Prim.Native.Nat.{ℕ, zero, suc, _+_, _*_, _<_}
+use native.Mathlib.Decide.{ℕ-discrete}
+use native.Mathlib.Omega.{arith}
+use lib.Dec.{T}
+use lib.ListN.{length, getD, length-set}
+use lib.Seq.{getD-set-same, getD-set-other}
+use Rattle.words.specs.Sums.{sumTo}
+use Rattle.words.specs.Words.{word}
+use Rattle.words.proofs.Lists.{all-member, member-distinct}
+use Rattle.layout.specs.declared.layout.Layout.{Layout}
+use Rattle.layout.specs.Layout.{axes, address}
+use Rattle.layout.specs.Labels.{labels}
+use Rattle.layout.specs.Questions.{inside, apart, extentsAgree}
+use Rattle.layout.specs.Bounds.{Inside}
+use Rattle.layout.proofs.Bounds.{inside-every}
+use Rattle.layout.proofs.StridesApart.{apart-injective}
+use Rattle.contraction.specs.declared.contraction.Contraction.{Contraction}
+use Rattle.contraction.specs.Operands.{Operand, A, B, D, tensors, shape, together}
+use Rattle.contraction.specs.Groups.{letters, depth, group, size}
+use Rattle.contraction.specs.Index.{at, outputs, outIndex}
+use Rattle.contraction.specs.Meaning.{Slices, shapeIn, entry, value, overwrite, result}
+use Rattle.contraction.proofs.Address.{group-distinct}
+use Rattle.contraction.proofs.Nested.{sumOver-is-sumTo}
+use Rattle.contraction.proofs.Index.{at-injective, outputs-all, outputs-distinct, out-in-range}
+
+module _ (place v : ℕ → ℕ) (w : List ℕ) where
+  pub length-overwrite : (n : ℕ) → length (overwrite n place v w) ≡ length w
+  length-overwrite zero = refl
+  length-overwrite (suc n) = simp length-set (length-overwrite n)
+
+  -- a word that is no place keeps its value
+  pub overwrite-other : (n p : ℕ) → ((m : ℕ) → m < n → place m ≢ p) → getD (overwrite n place v w) p 0 ≡ getD w p 0
+  overwrite-other zero p h = refl
+  overwrite-other (suc n) p h =
+      getD-set-other (overwrite n place v w) (place n) p (v n) 0 (λ e. h n (omega arith) (sym e)) ∙ overwrite-other n p (λ m k. h m (omega arith))
+
+  -- a place holds its value, where no two places are the same
+  pub overwrite-at : (n m : ℕ) → m < n → ((i k : ℕ) → i < n → k < n → place i ≡ place k → i ≡ k) → place m < length w
+      → getD (overwrite n place v w) (place m) 0 ≡ v m
+  overwrite-at zero m h inj b = absurd (omega arith)
+  overwrite-at (suc n) m h inj b = go (ℕ-discrete m n) (λ k. overwrite-at n m k (λ i j p q. inj i j (omega arith) (omega arith)) b)
+    where
+      go : Dec (m ≡ n) → (m < n → getD (overwrite n place v w) (place m) 0 ≡ v m) → getD (overwrite (suc n) place v w) (place m) 0 ≡ v m
+      go (yes e) r = rw e (getD-set-same (overwrite n place v w) (place n) (v n) 0 (rw (length-overwrite n, ← e) b))
+      go (no e) r =
+          getD-set-other (overwrite n place v w) (place n) (place m) (v n) 0 (λ p. e (inj m n (omega arith) (omega arith) p)) ∙ r (omega arith)
+
+-- ---- where questions 6, 8 and 9 pass
+module _ (t : Operand → Layout) (n : ℕ) (same : T (extentsAgree (together (shape t)))) (fits : T (inside (axes (t D)) (t D .base) n)) where
+  -- an output count addresses a word of D's slice
+  pub output-inside : (m : ℕ) → m < size (outputs (shape t)) → Inside (t D) n (outIndex (shape t) m)
+  output-inside m h = inside-every (t D) n fits (outIndex (shape t) m) (out-in-range (shape t) same m h)
+
+  -- different output counts address different words
+  pub outputs-apart : T (apart (axes (t D))) → (i k : ℕ) → i < size (outputs (shape t)) → k < size (outputs (shape t))
+      → address (t D) (outIndex (shape t) i) ≡ address (t D) (outIndex (shape t) k) → i ≡ k
+  unfolding labels outIndex
+  outputs-apart spread i k p q e =
+      let agree = apart-injective (t D) spread n (outIndex (shape t) i) (outIndex (shape t) k)
+      (out-in-range (shape t) same i p) (out-in-range (shape t) same k q) (output-inside i p) (output-inside k q) e in
+      at-injective (outputs (shape t)) i k (λ c. 0) (outputs-distinct (shape t)) p q
+      (outputs-all (shape t) (λ l. outIndex (shape t) i (l .letter) ≡ outIndex (shape t) k (l .letter))
+      (λ c h. all-member (λ c. outIndex (shape t) i c ≡ outIndex (shape t) k c) c (labels (axes (t D))) agree (member-distinct c (letters (shape t) D) h)))
+
+module _ (c : Contraction) (w : Slices) where
+  pub result-at : T (extentsAgree (together (shapeIn c))) → T (inside (axes (tensors c D)) (tensors c D .base) (length (w D))) → T (apart (axes (tensors c D)))
+      → (m : ℕ) → m < size (outputs (shapeIn c)) → getD (result c w) (address (tensors c D) (outIndex (shapeIn c) m)) 0 ≡ value c w (outIndex (shapeIn c) m)
+  unfolding result
+  result-at same fits spread m h =
+      overwrite-at (λ m. address (tensors c D) (outIndex (shapeIn c) m)) (λ m. value c w (outIndex (shapeIn c) m)) (w D) (size (outputs (shapeIn c))) m h
+      (outputs-apart (tensors c) (length (w D)) same fits spread) (output-inside (tensors c) (length (w D)) same fits m h .1)
+
+  pub result-other : (p : ℕ) → ((m : ℕ) → m < size (outputs (shapeIn c)) → address (tensors c D) (outIndex (shapeIn c) m) ≢ p)
+      → getD (result c w) p 0 ≡ getD (w D) p 0
+  unfolding result
+  result-other p h = overwrite-other _ (λ m. value c w (outIndex (shapeIn c) m)) (w D) _ p h
+
+  -- the product of the entries of A and B at a depth count
+  abbrev pub term : (ℕ → ℕ) → ℕ → ℕ
+  term ρ k = entry c w A (at (group (shapeIn c) depth) k ρ) * entry c w B (at (group (shapeIn c) depth) k ρ)
+
+  -- the sum of a value runs over the counts of the depth group
+  pub value-counts : (ρ : ℕ → ℕ) → value c w ρ ≡ word 32 (c .alpha * sumTo (size (group (shapeIn c) depth)) (term ρ) + c .beta * entry c w D ρ)
+  unfolding value
+  value-counts ρ = rw (sumOver-is-sumTo (group (shapeIn c) depth) (λ σ. entry c w A σ * entry c w B σ) ρ (group-distinct (shapeIn c) depth))

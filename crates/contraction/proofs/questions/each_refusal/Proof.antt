@@ -1,0 +1,86 @@
+-- `each_refusal` meets its contract: `ask` puts the answers in the order of the list. The lists of axes are made where question 1 passes.
+-- Assumes nothing.
+use Rattle.layout.specs.Layout.{axes}
+use Rattle.layout.specs.Questions.{lettersValid, extentsValid}
+use Rattle.contraction.specs.Operands.{A, B, D, tensors}
+use Rattle.contraction.specs.Questions.{eachTensor}
+use Rattle.contraction.proofs.Refusal.{three-ofEach, fails, passes, asked-four}
+use Rattle.contraction.proofs.Ready.{ranks-low}
+use borrow.Author.Needs.{needs}
+use Rattle.contraction.proofs.questions.each_refusal.Statement.{statement}
+use Rattle.contraction.proofs.questions.each_refusal.Tie as tie
+
+ranks-fit-requires : tie.Need-ranks-fit-requires
+ranks-fit-requires c κs = search needs
+
+returns : tie.Need-returns
+unfolding eachTensor
+returns c = rw (fails (c .before .ranks-fit .ensures) (c .if1 .taken))
+
+of-requires : tie.Need-of-requires
+of-requires c κs = ranks-low (c .before .before .args .c) (passes (c .before .ranks-fit .ensures) (c .if1 .left))
+
+answers-of-requires : tie.Need-answers-of-requires
+answers-of-requires c κs = search needs
+
+counts-match-requires : tie.Need-counts-match-requires
+counts-match-requires c κs = search needs
+
+of-each-requires : tie.Need-of-each-requires
+of-each-requires c κs = search needs
+
+of-each-requires-2 : tie.Need-of-each-requires-2
+of-each-requires-2 c κs = search needs
+
+sizes-valid-requires : tie.Need-sizes-valid-requires
+sizes-valid-requires c κs = search needs
+
+ask-requires : tie.Need-ask-requires
+ask-requires c κs = search needs
+
+ask-requires-2 : tie.Need-ask-requires-2
+ask-requires-2 c κs = search needs
+
+ask-requires-3 : tie.Need-ask-requires-3
+ask-requires-3 c κs = search needs
+
+ask-requires-4 : tie.Need-ask-requires-4
+ask-requires-4 c κs = search needs
+
+returns-2 : tie.Need-returns-2
+unfolding eachTensor
+returns-2 c =
+    let asked = c .before .before .before .before in
+    let v = c .before .before .before .before .before .before .before .before .before .before .before in
+    let one = v .before .before in
+    let t = tensors (one .before .before .args .c) in
+    rw (passes (one .before .ranks-fit .ensures) (one .if1 .left))
+    (asked-four 2 3 4 5
+    (asked .before .before .before .counts-match .ensures)
+    (three-ofEach (λ o. lettersValid (axes (t o))) (asked .before .before .of-each .ensures)
+    (v .answers-of .ensures .each A .letters) (v .answers-of .ensures .each B .letters) (v .answers-of .ensures .each D .letters))
+    (three-ofEach (λ o. extentsValid (axes (t o))) (asked .before .of-each2 .ensures)
+    (v .answers-of .ensures .each A .extents) (v .answers-of .ensures .each B .extents) (v .answers-of .ensures .each D .extents))
+    (asked .sizes-valid .ensures)
+    (c .before .before .before .ask .ensures)
+    (c .before .before .ask2 .ensures)
+    (c .before .ask3 .ensures)
+    (c .ask4 .ensures))
+
+pub each-refusal-spec : {M : Type 1} → statement M
+each-refusal-spec =
+    tie.close
+    (tie.spec
+    ranks-fit-requires
+    returns
+    of-requires
+    answers-of-requires
+    counts-match-requires
+    of-each-requires
+    of-each-requires-2
+    sizes-valid-requires
+    ask-requires
+    ask-requires-2
+    ask-requires-3
+    ask-requires-4
+    returns-2)

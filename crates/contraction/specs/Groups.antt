@@ -1,0 +1,79 @@
+-- The labels of a contraction and their four groups. A group counts from 0 up to its size; its first label runs fastest.
+-- Assumes nothing.
+use Prim.Native.Nat.{ℕ, _+_, _*_, _/_, _%_}
+use mathlib.Core.Bool.{Bool, true, false}
+use mathlib.Core.List.{List, [], _∷_, map}
+use lib.IntN.{ℤ}
+use lib.ListN.{getD}
+use lib.Dec.{eqb}
+use Rattle.words.specs.Sums.{product}
+use Rattle.words.specs.Lists.{keep, member, tabulate}
+use Rattle.words.specs.Words.{signed}
+use Rattle.layout.specs.Layout.{lettersOf}
+use Rattle.layout.specs.Labels.{strideOf, extentOf, labels}
+use Rattle.contraction.specs.declared.groups.Dim.{Dim}
+use Rattle.contraction.specs.declared.groups.Group.{Group as GroupCode}
+use Rattle.contraction.specs.Operands.{Operand, A, B, D, three, Shape, together}
+
+-- a letter with its extent, and its stride in each tensor: the sum of its strides there, 0 where it is absent
+pub record Label : Type 0 where
+  pub letter : ℕ
+  pub extent : ℕ
+  pub stride : Operand → ℤ
+
+abbrev pub label : Shape → ℕ → Label
+label s c = record { letter = c; extent = extentOf c (together s); stride = λ o. strideOf c (s o) }
+
+abbrev pub letters : Shape → Operand → List ℕ
+letters s o = lettersOf (s o)
+
+pub data Group : Type 0 where
+  batch row column depth : Group
+
+-- the group of a label, by whether A, B and D have it: batch in all three, column in B and D and not A, row every other label
+-- of D, depth every label not in D
+abbrev pub groupBy : Bool → Bool → Bool → Group
+groupBy a b false = depth
+groupBy true true true = batch
+groupBy false true true = column
+groupBy a false true = row
+
+unfoldable pub groupOf : Shape → ℕ → Group
+groupOf s c = groupBy (member c (letters s A)) (member c (letters s B)) (member c (letters s D))
+
+abbrev pub number : Group → ℕ
+number batch = 0
+number row = 1
+number column = 2
+number depth = 3
+
+unfoldable pub inGroup : Shape → Group → ℕ → Bool
+inGroup s g c = eqb (number (groupOf s c)) (number g)
+
+-- batch, row and column labels in order of first appearance in D's labels; depth in that of A's, then B's
+unfoldable pub group : Shape → Group → List Label
+group s g = map (label s) (keep (inGroup s g) (labels (together s)))
+
+-- the product of the extents; an empty group has size 1
+abbrev pub size : List Label → ℕ
+size g = product (λ l. l .extent) g
+
+-- Σ digit × weight over the labels of a group at a count: the weight of a label is a part of its stride in a tensor
+abbrev pub offset : (Label → ℕ) → List Label → ℕ → ℕ
+offset w [] n = 0
+offset w (l ∷ g) n = n % l .extent * w l + offset w g (n / l .extent)
+
+-- the offset of a count of a group in a tensor: up, down or as address words
+abbrev pub offsetIn : (ℤ → ℕ) → Operand → List Label → ℕ → ℕ
+offsetIn part o = offset (λ l. part (l .stride o))
+
+-- a label as code holds it, its strides as 64-bit address words
+abbrev pub asLabel : Dim → Label
+asLabel x = record { letter = x .letter; extent = x .extent; stride = three (signed (x .a)) (signed (x .b)) (signed (x .d)) }
+
+abbrev pub noDim : Dim
+noDim = record { letter = 0; extent = 0; a = 0; b = 0; d = 0 }
+
+-- the labels that the code's list of up to 24 holds
+unfoldable pub labelsIn : GroupCode → List Label
+labelsIn g = map asLabel (tabulate (g .count) (λ i. getD (g .dims) i noDim))

@@ -1,0 +1,11 @@
+pub mod Operands
+pub mod Groups
+pub mod Fold
+pub mod Index
+pub mod Questions
+pub mod Meaning
+pub mod Block
+pub mod Edges
+pub mod Ready
+pub mod Sets
+pub mod Plan

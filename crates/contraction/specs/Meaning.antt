@@ -1,0 +1,40 @@
+-- What a contraction leaves in D: document 000 (TAPP), cases 1 to 4 and broadcast.
+-- Assumes nothing.
+use Prim.Native.Nat.{ℕ, zero, suc, _+_, _*_}
+use mathlib.Core.List.{List}
+use lib.ListN.{getD, set}
+use Rattle.words.specs.Words.{word}
+use Rattle.layout.specs.Layout.{address}
+use Rattle.contraction.specs.declared.contraction.Contraction.{Contraction}
+use Rattle.contraction.specs.Operands.{Operand, A, B, D, Shape, tensors, shape}
+use Rattle.contraction.specs.Groups.{depth, group, size}
+use Rattle.contraction.specs.Index.{sumOver, outputs, outIndex}
+
+-- the words of each tensor's slice
+abbrev pub Slices : Type 0
+Slices = Operand → List ℕ
+
+abbrev pub shapeIn : Contraction → Shape
+shapeIn c = shape (tensors c)
+
+module _ (c : Contraction) (w : Slices) where
+  -- the entry of a tensor at an index: a tensor that lacks a label has the same entry at each of its values
+  unfoldable pub entry : Operand → (ℕ → ℕ) → ℕ
+  entry o ρ = getD (w o) (address (tensors c o) ρ) 0
+
+  -- alpha × (the sum, over every label that D lacks, of A's entry × B's entry) + beta × old
+  unfoldable pub value : (ℕ → ℕ) → ℕ
+  value ρ = word 32 (c .alpha * sumOver (group (shapeIn c) depth) (λ σ. entry A σ * entry B σ) ρ + c .beta * entry D ρ)
+
+-- the words w with, for each count below n, its value v put at its place
+abbrev pub overwrite : ℕ → (ℕ → ℕ) → (ℕ → ℕ) → List ℕ → List ℕ
+overwrite zero place v w = w
+overwrite (suc n) place v w = set (overwrite n place v w) (place n) (v n)
+
+-- D's words afterwards: each output index's value at its address
+unfoldable pub result : Contraction → Slices → List ℕ
+result c w =
+    overwrite (size (outputs (shapeIn c)))
+    (λ m. address (tensors c D) (outIndex (shapeIn c) m))
+    (λ m. value c w (outIndex (shapeIn c) m))
+    (w D)

@@ -1,0 +1,32 @@
+ghost use mathlib.Core.Path.{_≡_};
+use layout::layout::Layout;
+
+// D's word becomes alpha × (sum over every label that D lacks of A's entry × B's entry) + beta × old word.
+pub struct Contraction {
+    pub a: Layout,
+    pub b: Layout,
+    pub d: Layout,
+    pub alpha: u32,
+    pub beta: u32,
+}
+
+// How many words each tensor's slice has.
+pub struct Lengths {
+    pub a: usize,
+    pub b: usize,
+    pub d: usize,
+}
+
+impl Contraction {
+    pub fn new(a: Layout, b: Layout, d: Layout, alpha: u32, beta: u32) -> Contraction
+        ensures { λ r. ⌜ r ≡ record { a = a; b = b; d = d; alpha = alpha; beta = beta } ⌝ }
+    {
+        Contraction {
+            a,
+            b,
+            d,
+            alpha,
+            beta,
+        }
+    }
+}

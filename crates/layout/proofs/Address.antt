@@ -1,0 +1,63 @@
+-- The address of an entry: the whole number base + Σ index × stride where that is 0 or more, and what wrapping sums of 64-bit words give
+-- where it also lies within 64 bits; the base at the index 0, 0, ..; and the same at indices that agree at the letters.
+-- Assumes nothing.
+use mathlib.Core.Path.{_≡_, refl, ap, _∙_}
+use mathlib.Core.List.{List, [], _∷_}
+use Prim.Native.Nat.{ℕ, _+_, _*_, _-_, _%_, _^_, _≤_, _<_}
+use native.Mathlib.Nat.{zero-mul, add-mul-mod-self-right, mod-eq-of-lt}
+use native.Mathlib.Omega.{arith}
+use lib.IntN.{ℤ, pos, negsuc, _*ℤ_}
+use Rattle.words.specs.Sums.{All}
+use Rattle.words.specs.Words.{up, down, wordOf}
+use Rattle.words.proofs.Sums.{total-ext, total-zero}
+use Rattle.words.proofs.Whole.{add-parts, up-mul, down-mul, sign, word-is}
+use Rattle.layout.specs.declared.layout.Axis.{Axis}
+use Rattle.layout.specs.declared.layout.Layout.{Layout}
+use Rattle.layout.specs.Layout.{axes, along, address, shift, signedAddress, wrappedAddress}
+
+-- ---- as 64-bit words
+
+along-word : (xs : List Axis) (ρ : ℕ → ℕ) → All (λ a. down (a .stride) ≤ 2 ^ 64) xs
+    → along (wordOf 64) xs ρ + along down xs ρ ≡ along up xs ρ + along sign xs ρ * 2 ^ 64
+along-word [] ρ h = refl
+along-word (a ∷ xs) ρ h = omega (arith, along-word xs ρ (h .1), ap (λ (x : ℕ). ρ (a .letter) * x) (word-is (a .stride) (h .0)))
+
+pub wrapped-is-address : (l : Layout) (ρ : ℕ → ℕ) → All (λ a. down (a .stride) ≤ 2 ^ 64) (axes l)
+    → along down (axes l) ρ ≤ l .base + along up (axes l) ρ → address l ρ < 2 ^ 64 → wrappedAddress l ρ ≡ address l ρ
+unfolding address wrappedAddress
+wrapped-is-address l ρ small low high =
+    ap (λ (x : ℕ). x % 2 ^ 64) (omega (arith, along-word (axes l) ρ small)) ∙ add-mul-mod-self-right (address l ρ) (along sign (axes l) ρ) (2 ^ 64) ∙ mod-eq-of-lt high
+
+-- ---- as a whole number
+
+from-parts : (x : ℤ) (a b : ℕ) → up x + b ≡ down x + a → b ≤ a → x ≡ pos (a - b)
+from-parts (pos n) a b e h = ap pos (omega arith)
+from-parts (negsuc n) a b e h = absurd (omega arith)
+
+shift-parts : (xs : List Axis) (ρ : ℕ → ℕ) → up (shift xs ρ) + along down xs ρ ≡ down (shift xs ρ) + along up xs ρ
+shift-parts [] ρ = refl
+shift-parts (a ∷ xs) ρ =
+    omega (arith, shift-parts xs ρ, add-parts (pos (ρ (a .letter)) *ℤ a .stride) (shift xs ρ), up-mul (ρ (a .letter)) (a .stride), down-mul (ρ (a .letter)) (a .stride))
+
+pub signed-address : (l : Layout) (ρ : ℕ → ℕ) → along down (axes l) ρ ≤ l .base + along up (axes l) ρ → signedAddress l ρ ≡ pos (address l ρ)
+unfolding signedAddress address
+signed-address l ρ h = from-parts _ _ _ (omega (arith, shift-parts (axes l) ρ, add-parts (pos (l .base)) (shift (axes l) ρ))) h
+
+-- ---- by the index
+
+pub along-zero : (part : ℤ → ℕ) (xs : List Axis) → along part xs (λ c. 0) ≡ 0
+along-zero part xs = total-ext (λ a. zero-mul (part (a .stride))) xs ∙ total-zero xs
+
+-- the entry at index 0, 0, .. is the word at the base
+pub address-zero : (l : Layout) → address l (λ c. 0) ≡ l .base
+unfolding address
+address-zero l = rw (along-zero up (axes l), along-zero down (axes l)) (omega arith)
+
+pub along-agree : (part : ℤ → ℕ) (xs : List Axis) (ρ σ : ℕ → ℕ) → All (λ a. ρ (a .letter) ≡ σ (a .letter)) xs → along part xs ρ ≡ along part xs σ
+along-agree part [] ρ σ h = refl
+along-agree part (a ∷ xs) ρ σ h = rw (h .0, along-agree part xs ρ σ (h .1))
+
+-- indices that agree at the letters of a tensor have one address there
+pub address-agree : (l : Layout) (ρ σ : ℕ → ℕ) → All (λ a. ρ (a .letter) ≡ σ (a .letter)) (axes l) → address l ρ ≡ address l σ
+unfolding address
+address-agree l ρ σ h = rw (along-agree up (axes l) ρ σ h, along-agree down (axes l) ρ σ h)

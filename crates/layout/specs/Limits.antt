@@ -1,0 +1,45 @@
+-- The limits of document 01, by name. The code's are the associated constants of `Limits`; `Limits::all` is proved to hold these.
+-- Assumes nothing.
+use Prim.Native.Nat.{ℕ}
+use Rattle.layout.specs.declared.limits.Limits.{Limits}
+
+abbrev pub rankLimit : ℕ  -- letters of a tensor
+rankLimit = 8
+
+abbrev pub extentLimit : ℕ
+extentLimit = 65536
+
+abbrev pub strideLimit : ℕ  -- the size of a stride, up or down
+strideLimit = 16777216
+
+abbrev pub baseLimit : ℕ
+baseLimit = 16777216
+
+abbrev pub sliceLimit : ℕ  -- words of a tensor's slice
+sliceLimit = 16777216
+
+abbrev pub productLimit : ℕ  -- the product of the extents of all different labels
+productLimit = 1073741824
+
+abbrev pub rowsLimit : ℕ  -- rows of a tile
+rowsLimit = 64
+
+abbrev pub colsLimit : ℕ  -- columns of a tile
+colsLimit = 64
+
+abbrev pub depthLimit : ℕ  -- depth of a tile
+depthLimit = 128
+
+abbrev pub limits : Limits
+limits =
+    record {
+      rank = rankLimit;
+      extent = extentLimit;
+      stride = strideLimit;
+      base = baseLimit;
+      slice = sliceLimit;
+      product = productLimit;
+      rows = rowsLimit;
+      cols = colsLimit;
+      depth = depthLimit;
+    }

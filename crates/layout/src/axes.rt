@@ -1,0 +1,55 @@
+ghost use mathlib.Core.Path.{_≡_};
+ghost use mathlib.Core.List.{[], _++_};
+ghost use Prim.Native.Nat.{_+_, _≤_};
+ghost use Rattle.layout.specs.Layout.{axes};
+ghost use Rattle.layout.specs.Labels.{listed};
+use super::layout::Axis;
+use super::layout::Layout;
+
+// A list of up to 24 axes: those of one tensor, or of three together.
+pub struct Axes {
+    pub items: [Axis; 24],
+    pub count: usize,
+}
+
+impl Axes {
+    pub fn none() -> Axes
+        ensures { λ r. ⌜ (listed r ≡ []) × (r .count ≡ 0) ⌝ }
+    {
+        Axes {
+            items: [Axis {
+                letter: 0,
+                extent: 0,
+                stride: 0,
+            }; 24],
+            count: 0,
+        }
+    }
+
+    // The list with the axes of a layout behind it.
+    pub fn with(self, l: Layout) -> Axes
+        requires { ⌜ (self .count ≤ 16) × (l .«letter_count» ≤ 8) ⌝ }
+        ensures { λ r. ⌜ (listed r ≡ listed self ++ axes l) × (r .count ≡ self .count + l .«letter_count») ⌝ }
+    {
+        let start = self.count;
+        let rank = l.letter_count;
+        let from = l.axes;
+        let mut items = self.items;
+        let mut i: usize = 0;
+        while i < rank {
+            items[start + i] = from[i];
+            i += 1;
+        }
+        Axes {
+            items,
+            count: start + rank,
+        }
+    }
+
+    pub fn of(l: Layout) -> Axes
+        requires { ⌜ l .«letter_count» ≤ 8 ⌝ }
+        ensures { λ r. ⌜ (listed r ≡ axes l) × (r .count ≡ l .«letter_count») ⌝ }
+    {
+        Axes::none().with(l)
+    }
+}

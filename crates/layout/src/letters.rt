@@ -1,0 +1,91 @@
+ghost use mathlib.Core.Path.{_≡_};
+ghost use mathlib.Core.Bool.{true, _||_};
+ghost use mathlib.Core.List.{[]};
+ghost use Prim.Native.Nat.{ℕ, _+_, _%_, _<_, _≤_};
+ghost use lib.Dec.{eqb};
+ghost use Rattle.layout.specs.Letters.{isLetter, has, spelled, Spells, added};
+ghost use Rattle.layout.specs.Labels.{listed, labels};
+ghost use Rattle.layout.specs.Checked.{Checked};
+use super::axes::Axes;
+
+// Different letters in order, beside the set of them as bits of a 64-bit word.
+pub struct Letters {
+    pub letters: [u8; 24],
+    pub count: usize,
+    pub set: u64,
+}
+
+pub fn is_letter(c: u8) -> bool
+    ensures { λ r. ⌜ r ≡ isLetter c ⌝ }
+{
+    ((65 <= c) & (c <= 90)) | ((97 <= c) & (c <= 122))
+}
+
+fn bit_of(c: u8) -> u32
+    ensures { λ r. ⌜ r ≡ c % 64 ⌝ }
+{
+    (c as u32) % 64
+}
+
+// Does the set have the letter?
+pub fn has_letter(set: u64, c: u8) -> bool
+    ensures { λ r. ⌜ r ≡ has set c ⌝ }
+{
+    let k = bit_of(c);
+    (set >> k) % 2 == 1
+}
+
+fn insert(set: u64, c: u8) -> u64
+    ensures { λ r. ⌜ ((d : ℕ) → has r d ≡ (eqb (d % 64) (c % 64) || has set d)) ⌝ }
+{
+    let k = bit_of(c);
+    set | (1u64 << k)
+}
+
+impl Letters {
+    pub fn none() -> Letters
+        ensures { λ r. ⌜ Spells r [] ⌝ }
+    {
+        Letters {
+            letters: [0; 24],
+            count: 0,
+            set: 0,
+        }
+    }
+
+    // The letters with one more behind them, unless they have it.
+    fn with(self, c: u8) -> Letters
+        requires { ⌜ Spells self (spelled self) × (self .count < 24) × (isLetter c ≡ true) ⌝ }
+        ensures { λ r. ⌜ Spells r (added c (spelled self)) × (r .count ≤ self .count + 1) ⌝ }
+    {
+        let set = self.set;
+        if has_letter(set, c) {
+            return self;
+        }
+        let n = self.count;
+        let mut letters = self.letters;
+        letters[n] = c;
+        Letters {
+            letters,
+            count: n + 1,
+            set: insert(set, c),
+        }
+    }
+}
+
+// The different letters of the axes, in order of first appearance.
+pub fn letters_of(x: Axes) -> Letters
+    requires { ⌜ Checked x ⌝ }
+    ensures { λ r. ⌜ Spells r (labels (listed x)) ⌝ }
+{
+    let items = x.items;
+    let count = x.count;
+    let mut all = Letters::none();
+    let mut i: usize = 0;
+    while i < count {
+        let a = items[i];
+        all = all.with(a.letter);
+        i += 1;
+    }
+    all
+}

@@ -1,0 +1,52 @@
+ghost use mathlib.Core.Path.{_≡_};
+ghost use Rattle.layout.specs.Limits.{limits};
+
+// The limits of document 01, one set of named values for both engines and the program.
+pub struct Limits {
+    pub rank: usize,
+    pub extent: u32,
+    pub stride: u64,
+    pub base: u32,
+    pub slice: usize,
+    pub product: u64,
+    pub rows: u32,
+    pub cols: u32,
+    pub depth: u32,
+}
+
+impl Limits {
+    pub const RANK: usize = 8;
+
+    pub const EXTENT: u32 = 65536;
+
+    pub const STRIDE: u64 = 16777216;
+
+    pub const BASE: u32 = 16777216;
+
+    pub const SLICE: usize = 16777216;
+
+    pub const PRODUCT: u64 = 1073741824;
+
+    pub const ROWS: u32 = 64;
+
+    pub const COLS: u32 = 64;
+
+    pub const DEPTH: u32 = 128;
+
+    // The constants are those that the definitions name.
+    pub fn all() -> Limits
+        ensures { λ r. ⌜ r ≡ limits ⌝ }
+    {
+        Limits {
+            rank: Limits::RANK,
+            extent: Limits::EXTENT,
+            stride: Limits::STRIDE,
+            base: Limits::BASE,
+            slice: Limits::SLICE,
+            product: Limits::PRODUCT,
+            rows: Limits::ROWS,
+            cols: Limits::COLS,
+            depth: Limits::DEPTH,
+        }
+    }
+}

@@ -1,0 +1,103 @@
+-- Laws of sums, products and tests over a list, and of sums over the counts below a bound.
+-- Assumes nothing.
+use mathlib.Core.Path.{_≡_, refl, sym}
+use mathlib.Core.List.{List, [], _∷_, _++_, map}
+use mathlib.Core.Bool.{Bool, true, false, _&&_}
+use lib.Dec.{T}
+use Prim.Native.Nat.{ℕ, zero, suc, _+_, _*_, _≤_, _<_}
+use native.Mathlib.Nat.{add-zero, add-suc, add-assoc, mul-zero, mul-suc, mul-le-mul-left, mul-le-mul-right}
+use native.Mathlib.Omega.{arith}
+use lib.ListN.{drop}
+use Rattle.words.specs.Sums.{total, product, sumTo, every, All}
+use Rattle.words.specs.Lists.{keep, cons-if}
+
+module _ {X : Type 0} where
+  pub total-ext : {f g : X → ℕ} → ((x : X) → f x ≡ g x) → (xs : List X) → total f xs ≡ total g xs
+  total-ext e [] = refl
+  total-ext e (x ∷ xs) = rw (e x, total-ext e xs)
+
+  pub total-add : (f g : X → ℕ) (xs : List X) → total (λ x. f x + g x) xs ≡ total f xs + total g xs
+  total-add f g [] = refl
+  total-add f g (x ∷ xs) = omega (arith, total-add f g xs)
+
+  pub total-mul : (k : ℕ) (f : X → ℕ) (xs : List X) → total (λ x. k * f x) xs ≡ k * total f xs
+  total-mul k f [] = omega arith
+  total-mul k f (x ∷ xs) = omega (arith, total-mul k f xs)
+
+  pub total-zero : (xs : List X) → total (λ x. 0) xs ≡ 0
+  total-zero [] = refl
+  total-zero (x ∷ xs) = omega (arith, total-zero xs)
+
+pub total-map : {X Y : Type 0} (f : Y → ℕ) (h : X → Y) (xs : List X) → total f (map h xs) ≡ total (λ x. f (h x)) xs
+total-map f h [] = refl
+total-map f h (x ∷ xs) = rw (total-map f h xs)
+
+pub sumTo-ext : {f g : ℕ → ℕ} (n : ℕ) → ((i : ℕ) → i < n → f i ≡ g i) → sumTo n f ≡ sumTo n g
+unfolding sumTo
+sumTo-ext zero e = refl
+sumTo-ext (suc n) e = rw (e n (omega arith), sumTo-ext n (λ i h. e i (omega arith)))
+
+pub sumTo-add : (n m : ℕ) (f : ℕ → ℕ) → sumTo (n + m) f ≡ sumTo n f + sumTo m (λ i. f (n + i))
+unfolding sumTo
+sumTo-add n zero f = simp add-zero
+sumTo-add n (suc m) f = simp (add-suc, sumTo-add n m f, add-assoc)
+
+-- a sum over e × s counts, the first of the two counts running fastest
+pub sumTo-mul : (e s : ℕ) (f : ℕ → ℕ) → sumTo (e * s) f ≡ sumTo s (λ m. sumTo e (λ v. f (e * m + v)))
+unfolding sumTo
+sumTo-mul e zero f = simp mul-zero
+sumTo-mul e (suc s) f = simp (mul-suc, sumTo-add, sumTo-mul e s f)
+
+sumTo-zero : (n : ℕ) → sumTo n (λ i. 0) ≡ 0
+unfolding sumTo
+sumTo-zero zero = refl
+sumTo-zero (suc n) = omega (arith, sumTo-zero n)
+
+sumTo-plus : (n : ℕ) (f g : ℕ → ℕ) → sumTo n (λ i. f i + g i) ≡ sumTo n f + sumTo n g
+unfolding sumTo
+sumTo-plus zero f g = refl
+sumTo-plus (suc n) f g = omega (arith, sumTo-plus n f g)
+
+-- two sums may change places
+pub sumTo-swap : (n m : ℕ) (f : ℕ → ℕ → ℕ) → sumTo n (λ i. sumTo m (λ j. f i j)) ≡ sumTo m (λ j. sumTo n (λ i. f i j))
+unfolding sumTo
+sumTo-swap zero m f = sym (sumTo-zero m)
+sumTo-swap (suc n) m f = rw (sumTo-swap n m f) (sym (sumTo-plus m (λ j. sumTo n (λ i. f i j)) (f n)))
+
+pub and-split : (a b : Bool) → T (a && b) → T a × T b
+and-split true b t = (tt, t)
+and-split false b t = absurd t
+
+pub and-join : (a b : Bool) → T a → T b → T (a && b)
+and-join true b t u = u
+and-join false b t u = t
+
+-- a test that passes at every member passes at each
+pub every-all : {X : Type 0} (p : X → Bool) (xs : List X) → T (every p xs) → All (λ x. T (p x)) xs
+every-all p [] t = tt
+every-all p (x ∷ xs) t = let h = and-split (p x) (every p xs) t in (h .0, every-all p xs (h .1))
+
+-- a test that passes at every member passes at every member from a place on
+pub every-drop : {X : Type 0} (p : X → Bool) (i : ℕ) (xs : List X) → T (every p xs) → T (every p (drop i xs))
+every-drop p zero xs t = t
+every-drop p (suc i) [] t = t
+every-drop p (suc i) (x ∷ xs) t = every-drop p i xs (and-split (p x) (every p xs) t .1)
+
+-- a test that passes at every member of two lists passes at every member of one behind the other
+pub every-append : {X : Type 0} (p : X → Bool) (xs ys : List X) → T (every p xs) → T (every p ys) → T (every p (xs ++ ys))
+every-append p [] ys t u = u
+every-append p (x ∷ xs) ys t u = let h = and-split (p x) (every p xs) t in and-join (p x) (every p (xs ++ ys)) (h .0) (every-append p xs ys (h .1) u)
+
+module _ {X : Type 0} (f : X → ℕ) where
+  -- where every factor is 1 or more, a part of the product is no more than the whole
+  pub product-keep : ((x : X) → 0 < f x) → (p : X → Bool) (xs : List X) → product f (keep p xs) ≤ product f xs
+  product-keep h p [] = omega arith
+  product-keep h p (x ∷ xs) = go (p x) (product-keep h p xs)
+    where
+      go : (b : Bool) → product f (keep p xs) ≤ product f xs → product f (cons-if b x (keep p xs)) ≤ f x * product f xs
+      go true r = mul-le-mul-left (f x) r
+      go false r = omega (arith, r, mul-le-mul-right (product f xs) (h x))
+
+  pub product-map : {Y : Type 0} (h : Y → X) (ys : List Y) → product f (map h ys) ≡ product (λ y. f (h y)) ys
+  product-map h [] = refl
+  product-map h (y ∷ ys) = rw (product-map h ys)
