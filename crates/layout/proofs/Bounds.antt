@@ -11,14 +11,15 @@ use lib.IntN.{ℤ, pos, negsuc}
 use lib.Dec.{T, leb, ltb, leb→le, le→leb, ltb→lt, lt→ltb}
 use Rattle.words.specs.Sums.{total, All}
 use Rattle.words.specs.Words.{up, down}
-use Rattle.words.proofs.Lists.{all-imp}
+use Rattle.words.proofs.Lists.{all-imp, all-of}
 use Rattle.words.proofs.Sums.{total-zero, and-split, and-join}
 use Rattle.layout.specs.declared.layout.Axis.{Axis}
 use Rattle.layout.specs.declared.layout.Layout.{Layout}
 use Rattle.layout.specs.Layout.{axes, address}
 use Rattle.layout.specs.Labels.{strideOf, extentOf, labels}
-use Rattle.layout.specs.Questions.{span, inside}
+use Rattle.layout.specs.Questions.{extentsValid, span, inside}
 use Rattle.layout.specs.Bounds.{InRange, Inside}
+use Rattle.layout.proofs.Facts.{extents-bound}
 use Rattle.layout.proofs.ByLabel.{over, axes-labels}
 use Rattle.layout.proofs.Injective.{total-le}
 
@@ -101,5 +102,6 @@ module _ (l : Layout) (n : ℕ) where
         omega (arith, axes-labels xs (corner xs up), corner-over xs up up _ (toward-own up) cs, corner-over xs up down _ up-down cs),
       )
 
-  pub inside-exactly : All (λ c. 0 < extentOf c (axes l)) (labels (axes l)) → T (inside (axes l) (l .base) n) ↔ ((ρ : ℕ → ℕ) → InRange (axes l) ρ → Inside l n ρ)
-  inside-exactly p = (inside-every, every-inside p)
+  -- where question 4 passed, question 8 passes exactly when every index in range addresses a word inside the slice
+  pub inside-exactly : T (extentsValid (axes l)) → T (inside (axes l) (l .base) n) ↔ ((ρ : ℕ → ℕ) → InRange (axes l) ρ → Inside l n ρ)
+  inside-exactly q = (inside-every, every-inside (all-of (λ c. extents-bound (axes l) q c .0) (labels (axes l))))
