@@ -3,6 +3,7 @@
 use Prim.Native.Nat.{ℕ, _≤_}
 use mathlib.Core.Path.{_≡_}
 use Rattle.layout.specs.declared.layout.Layout.{Layout}
+use Rattle.layout.specs.Limits.{axesLimit}
 use Rattle.contraction.specs.declared.plan.Plan.{Plan}
 use Rattle.contraction.specs.declared.groups.Group.{Group as GroupCode}
 use Rattle.contraction.specs.Operands.{Operand, three, shape}
@@ -19,5 +20,5 @@ baseIn p = three (p .a) (p .b) (p .d)
 
 pub record Planned (t : Operand → Layout) (p : Plan) : Type 0 where
   pub groups : (g : Group) → labelsIn (planned p g) ≡ fold (group (shape t) g)
-  pub few : (g : Group) → planned p g .count ≤ 24
+  pub few : (g : Group) → planned p g .count ≤ axesLimit
   pub bases : (o : Operand) → baseIn p o ≡ t o .base

@@ -6,7 +6,7 @@ use mathlib.Core.List.{List}
 use lib.IntN.{natAbs}
 use Rattle.words.specs.Sums.{All}
 use Rattle.layout.specs.declared.layout.Layout.{Layout}
-use Rattle.layout.specs.Limits.{rankLimit, productLimit}
+use Rattle.layout.specs.Limits.{rankLimit, productLimit, axesLimit}
 use Rattle.layout.specs.Layout.{axes}
 use Rattle.layout.specs.Labels.{listed}
 use Rattle.layout.specs.declared.questions.Valid.{Valid}
@@ -31,7 +31,7 @@ pub record Lists (c : Contraction) (x : Operands) : Type 0 where
   pub each : (o : Operand) → listed (axesIn x o) ≡ axes (tensors c o)
   pub few : (o : Operand) → axesIn x o .count ≤ rankLimit
   pub all : listed (x .all) ≡ together (shapeOf x)
-  pub few-all : x .all .count ≤ 24
+  pub few-all : x .all .count ≤ axesLimit
 
 -- the answers of the tensors' axes to questions 3, 4 and 5
 pub record Answered (c : Contraction) (v : Answers) : Type 0 where

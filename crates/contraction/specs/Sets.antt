@@ -3,6 +3,7 @@
 use Prim.Native.Nat.{ℕ, _≤_}
 use mathlib.Core.Path.{_≡_}
 use mathlib.Core.Bool.{not, _&&_, _||_}
+use Rattle.layout.specs.Limits.{axesLimit}
 use Rattle.layout.specs.Letters.{has}
 use Rattle.contraction.specs.declared.groups.Sets.{Sets}
 use Rattle.contraction.specs.declared.groups.Groups.{Groups}
@@ -27,4 +28,4 @@ groupsIn r depth = r .depth
 -- the code's groups are the contraction's
 pub record Grouped (s : Shape) (r : Groups) : Type 0 where
   pub labels : (g : Group) → labelsIn (groupsIn r g) ≡ group s g
-  pub few : (g : Group) → groupsIn r g .count ≤ 24
+  pub few : (g : Group) → groupsIn r g .count ≤ axesLimit

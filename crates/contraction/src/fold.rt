@@ -2,6 +2,7 @@ ghost use mathlib.Core.Path.{_≡_};
 ghost use Prim.Native.Nat.{_+_, _*_, _<_, _≤_};
 ghost use lib.IntN.{pos, natAbs, _*ℤ_};
 ghost use Rattle.words.specs.Words.{signed};
+ghost use Rattle.layout.specs.Limits.{axesLimit};
 ghost use Rattle.contraction.specs.Groups.{asLabel, labelsIn};
 ghost use Rattle.contraction.specs.Fold.{eqℤ, joins, join, addTo, fold};
 ghost use Rattle.contraction.specs.Ready.{Small, Foldable};
@@ -44,7 +45,7 @@ fn joined(p: Dim, l: Dim) -> Dim
 
 // A folded group with one label more, joined to the last one or behind it.
 fn added(g: Group, l: Dim) -> Group
-    requires { ⌜ (g .count < 24) × Foldable (addTo (labelsIn g) (asLabel l)) × Foldable (labelsIn g) ⌝ }
+    requires { ⌜ (g .count < axesLimit) × Foldable (addTo (labelsIn g) (asLabel l)) × Foldable (labelsIn g) ⌝ }
     ensures { λ r. ⌜ (labelsIn r ≡ addTo (labelsIn g) (asLabel l)) × (r .count ≤ g .count + 1) ⌝ }
 {
     let n = g.count;
@@ -64,8 +65,8 @@ fn added(g: Group, l: Dim) -> Group
 
 // A group with labels of extent 1 dropped and labels that step together joined.
 pub fn folded(g: Group) -> Group
-    requires { ⌜ (g .count ≤ 24) × Foldable (labelsIn g) ⌝ }
-    ensures { λ r. ⌜ (labelsIn r ≡ fold (labelsIn g)) × (r .count ≤ 24) ⌝ }
+    requires { ⌜ (g .count ≤ axesLimit) × Foldable (labelsIn g) ⌝ }
+    ensures { λ r. ⌜ (labelsIn r ≡ fold (labelsIn g)) × (r .count ≤ axesLimit) ⌝ }
 {
     let dims = g.dims;
     let count = g.count;

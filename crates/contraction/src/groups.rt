@@ -2,6 +2,7 @@ ghost use mathlib.Core.Path.{_≡_};
 ghost use mathlib.Core.List.{[], _∷_, _++_, map};
 ghost use Prim.Native.Nat.{_+_, _<_, _≤_};
 ghost use Rattle.words.specs.Lists.{keep};
+ghost use Rattle.layout.specs.Limits.{axesLimit};
 ghost use Rattle.layout.specs.Letters.{has, spelled};
 ghost use Rattle.contraction.specs.Operands.{shapeOf};
 ghost use Rattle.contraction.specs.Groups.{label, asLabel, labelsIn};
@@ -13,6 +14,7 @@ use layout::labels::stride_of;
 use layout::letters::Letters;
 use layout::letters::has_letter;
 use layout::letters::letters_of;
+use layout::limits::Limits;
 
 // A label, or several that were joined, with its extent and its stride in each tensor as an address word.
 pub struct Dim {
@@ -25,7 +27,7 @@ pub struct Dim {
 
 // The labels of a group in order, the fastest first.
 pub struct Group {
-    pub dims: [Dim; 24],
+    pub dims: [Dim; Limits::AXES],
     pub count: usize,
 }
 
@@ -88,14 +90,14 @@ impl Group {
                 a: 0,
                 b: 0,
                 d: 0,
-            }; 24],
+            }; Limits::AXES],
             count: 0,
         }
     }
 
     // The group with one label more at its end.
     pub fn with(self, l: Dim) -> Group
-        requires { ⌜ self .count < 24 ⌝ }
+        requires { ⌜ self .count < axesLimit ⌝ }
         ensures { λ r. ⌜ (labelsIn r ≡ labelsIn self ++ asLabel l ∷ []) × (r .count ≡ self .count + 1) ⌝ }
     {
         let n = self.count;
@@ -107,8 +109,8 @@ impl Group {
 
 // The labels of the letters that the set has.
 fn group_of(x: Operands, all: Letters, set: u64) -> Group
-    requires { ⌜ Gathered x × (all .count ≤ 24) ⌝ }
-    ensures { λ r. ⌜ (labelsIn r ≡ map (label (shapeOf x)) (keep (has set) (spelled all))) × (r .count ≤ 24) ⌝ }
+    requires { ⌜ Gathered x × (all .count ≤ axesLimit) ⌝ }
+    ensures { λ r. ⌜ (labelsIn r ≡ map (label (shapeOf x)) (keep (has set) (spelled all))) × (r .count ≤ axesLimit) ⌝ }
 {
     let letters = all.letters;
     let count = all.count;

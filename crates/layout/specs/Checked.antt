@@ -7,12 +7,13 @@ use lib.Dec.{T}
 use Rattle.layout.specs.declared.layout.Axis.{Axis}
 use Rattle.layout.specs.declared.questions.Valid.{Valid}
 use Rattle.layout.specs.declared.axes.Axes.{Axes}
+use Rattle.layout.specs.Limits.{axesLimit}
 use Rattle.layout.specs.Labels.{listed}
 use Rattle.layout.specs.Questions.{lettersValid, extentsValid, stridesValid}
 
 -- what the code of questions 6 to 9 may assume: questions 1 and 3 to 5 passed
 pub record Checked (x : Axes) : Type 0 where
-  pub few : x .count ≤ 24
+  pub few : x .count ≤ axesLimit
   pub letters : T (lettersValid (listed x))
   pub extents : T (extentsValid (listed x))
   pub strides : T (stridesValid (listed x))

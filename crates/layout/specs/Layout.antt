@@ -7,6 +7,7 @@ use lib.IntN.{ℤ, pos, _+ℤ_, _*ℤ_}
 use Rattle.words.specs.Sums.{total}
 use Rattle.words.specs.Lists.{tabulate}
 use Rattle.words.specs.Words.{word, up, down, wordOf}
+use Rattle.layout.specs.Limits.{rankLimit}
 use Rattle.layout.specs.declared.layout.Axis.{Axis}
 use Rattle.layout.specs.declared.layout.Layout.{Layout}
 
@@ -16,7 +17,7 @@ noAxis = record { letter = 0; extent = 0; stride = pos 0 }
 
 -- the first 8 axes of letters, extents and strides that are handed in, 0 for what is missing
 unfoldable pub axesOf : List ℕ → List ℕ → List ℤ → List Axis
-axesOf cs es ss = tabulate 8 (λ i. record { letter = getD cs i 0; extent = getD es i 0; stride = getD ss i (pos 0) })
+axesOf cs es ss = tabulate rankLimit (λ i. record { letter = getD cs i 0; extent = getD es i 0; stride = getD ss i (pos 0) })
 
 -- the layout that is made of them and a base: those axes, and how many of each were given
 unfoldable pub layoutOf : List ℕ → List ℕ → List ℤ → ℕ → Layout

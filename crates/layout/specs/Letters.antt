@@ -7,6 +7,7 @@ use mathlib.Core.List.{List, [], _∷_, _++_}
 use lib.Dec.{eqb, leb}
 use lib.ListN.{getD}
 use Rattle.words.specs.Lists.{tabulate, member}
+use Rattle.layout.specs.Limits.{axesLimit}
 use Rattle.layout.specs.declared.letters.Letters.{Letters}
 
 -- A to Z or a to z
@@ -29,7 +30,7 @@ spelled x = tabulate (x .count) (λ i. getD (x .letters) i 0)
 pub record Spells (x : Letters) (cs : List ℕ) : Type 0 where
   pub spells : spelled x ≡ cs
   pub sets : (c : ℕ) → isLetter c ≡ true → has (x .set) c ≡ member c cs
-  pub few : x .count ≤ 24
+  pub few : x .count ≤ axesLimit
 
 -- letters with one more behind them, unless they have it
 abbrev pub added : ℕ → List ℕ → List ℕ

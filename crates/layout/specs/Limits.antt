@@ -21,6 +21,9 @@ sliceLimit = 16777216
 abbrev pub productLimit : ℕ  -- the product of the extents of all different labels
 productLimit = 1073741824
 
+abbrev pub axesLimit : ℕ  -- the letters of three tensors
+axesLimit = 24
+
 abbrev pub rowsLimit : ℕ  -- rows of a tile
 rowsLimit = 64
 
@@ -39,6 +42,7 @@ limits =
       base = baseLimit;
       slice = sliceLimit;
       product = productLimit;
+      axes = axesLimit;
       rows = rowsLimit;
       cols = colsLimit;
       depth = depthLimit;

@@ -1,14 +1,16 @@
 ghost use mathlib.Core.Path.{_≡_};
 ghost use mathlib.Core.List.{[], _++_};
 ghost use Prim.Native.Nat.{_+_, _≤_};
+ghost use Rattle.layout.specs.Limits.{rankLimit, axesLimit};
 ghost use Rattle.layout.specs.Layout.{axes};
 ghost use Rattle.layout.specs.Labels.{listed};
 use super::layout::Axis;
 use super::layout::Layout;
+use super::limits::Limits;
 
 // A list of up to 24 axes: those of one tensor, or of three together.
 pub struct Axes {
-    pub items: [Axis; 24],
+    pub items: [Axis; Limits::AXES],
     pub count: usize,
 }
 
@@ -21,14 +23,14 @@ impl Axes {
                 letter: 0,
                 extent: 0,
                 stride: 0,
-            }; 24],
+            }; Limits::AXES],
             count: 0,
         }
     }
 
     // The list with the axes of a layout behind it.
     pub fn with(self, l: Layout) -> Axes
-        requires { ⌜ (self .count ≤ 16) × (l .«letter_count» ≤ 8) ⌝ }
+        requires { ⌜ (self .count + rankLimit ≤ axesLimit) × (l .«letter_count» ≤ rankLimit) ⌝ }
         ensures { λ r. ⌜ (listed r ≡ listed self ++ axes l) × (r .count ≡ self .count + l .«letter_count») ⌝ }
     {
         let start = self.count;
@@ -47,7 +49,7 @@ impl Axes {
     }
 
     pub fn of(l: Layout) -> Axes
-        requires { ⌜ l .«letter_count» ≤ 8 ⌝ }
+        requires { ⌜ l .«letter_count» ≤ rankLimit ⌝ }
         ensures { λ r. ⌜ (listed r ≡ axes l) × (r .count ≡ l .«letter_count») ⌝ }
     {
         Axes::none().with(l)

@@ -2,13 +2,14 @@ ghost use mathlib.Core.Path.{_≡_};
 ghost use mathlib.Core.Bool.{cond};
 ghost use Prim.Native.Nat.{_-_, _≤_};
 ghost use Rattle.words.specs.Words.{wordOf};
+ghost use Rattle.layout.specs.Limits.{axesLimit};
 ghost use Rattle.layout.specs.Labels.{listed, strideOf, extentOf};
 ghost use Rattle.layout.specs.Checked.{Checked};
 use super::axes::Axes;
 
 // The extent of a letter where it first occurs, 1 where it is absent. From the last axis to the first.
 pub fn extent_of(x: Axes, c: u8) -> u32
-    requires { ⌜ x .count ≤ 24 ⌝ }
+    requires { ⌜ x .count ≤ axesLimit ⌝ }
     ensures { λ r. ⌜ r ≡ extentOf c (listed x) ⌝ }
 {
     let items = x.items;

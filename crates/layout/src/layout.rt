@@ -2,6 +2,7 @@ ghost use mathlib.Core.Path.{_≡_};
 ghost use lib.ListN.{getD};
 ghost use lib.IntN.{pos};
 ghost use Rattle.layout.specs.Layout.{layoutOf, axesOf};
+use super::limits::Limits;
 
 // One letter of a tensor with its extent and its stride.
 pub struct Axis {
@@ -13,7 +14,7 @@ pub struct Axis {
 // A tensor's layout as it was handed in: the first 8 axes, and how many letters, extents and strides there were, so that
 // questions 1 and 2 can be asked of it.
 pub struct Layout {
-    pub axes: [Axis; 8],
+    pub axes: [Axis; Limits::RANK],
     pub letter_count: usize,
     pub extent_count: usize,
     pub stride_count: usize,
@@ -39,16 +40,16 @@ fn stride_at(strides: &[i32], i: usize) -> i32
 }
 
 // The first 8 axes; what is missing is 0.
-fn first_axes(letters: &[u8], extents: &[u32], strides: &[i32]) -> [Axis; 8]
+fn first_axes(letters: &[u8], extents: &[u32], strides: &[i32]) -> [Axis; Limits::RANK]
     ensures { λ r. ⌜ r ≡ axesOf (now (letters .entry)) (now (extents .entry)) (now (strides .entry)) ⌝ }
 {
     let mut axes = [Axis {
         letter: 0,
         extent: 0,
         stride: 0,
-    }; 8];
+    }; Limits::RANK];
     let mut i: usize = 0;
-    while i < 8 {
+    while i < Limits::RANK {
         let letter = letter_at(letters, i);
         let extent = extent_at(extents, i);
         let stride = stride_at(strides, i);

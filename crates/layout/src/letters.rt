@@ -3,14 +3,16 @@ ghost use mathlib.Core.Bool.{true, _||_};
 ghost use mathlib.Core.List.{[]};
 ghost use Prim.Native.Nat.{ℕ, _+_, _%_, _<_, _≤_};
 ghost use lib.Dec.{eqb};
+ghost use Rattle.layout.specs.Limits.{axesLimit};
 ghost use Rattle.layout.specs.Letters.{isLetter, has, spelled, Spells, added};
 ghost use Rattle.layout.specs.Labels.{listed, labels};
 ghost use Rattle.layout.specs.Checked.{Checked};
 use super::axes::Axes;
+use super::limits::Limits;
 
 // Different letters in order, beside the set of them as bits of a 64-bit word.
 pub struct Letters {
-    pub letters: [u8; 24],
+    pub letters: [u8; Limits::AXES],
     pub count: usize,
     pub set: u64,
 }
@@ -47,7 +49,7 @@ impl Letters {
         ensures { λ r. ⌜ Spells r [] ⌝ }
     {
         Letters {
-            letters: [0; 24],
+            letters: [0; Limits::AXES],
             count: 0,
             set: 0,
         }
@@ -55,7 +57,7 @@ impl Letters {
 
     // The letters with one more behind them, unless they have it.
     fn with(self, c: u8) -> Letters
-        requires { ⌜ Spells self (spelled self) × (self .count < 24) × (isLetter c ≡ true) ⌝ }
+        requires { ⌜ Spells self (spelled self) × (self .count < axesLimit) × (isLetter c ≡ true) ⌝ }
         ensures { λ r. ⌜ Spells r (added c (spelled self)) × (r .count ≤ self .count + 1) ⌝ }
     {
         let set = self.set;

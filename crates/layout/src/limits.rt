@@ -9,6 +9,7 @@ pub struct Limits {
     pub base: u32,
     pub slice: usize,
     pub product: u64,
+    pub axes: usize,
     pub rows: u32,
     pub cols: u32,
     pub depth: u32,
@@ -26,6 +27,8 @@ impl Limits {
     pub const SLICE: usize = 16777216;
 
     pub const PRODUCT: u64 = 1073741824;
+    // The letters of three tensors: room for all axes, labels or letters of a contraction.
+    pub const AXES: usize = 3 * Limits::RANK;
 
     pub const ROWS: u32 = 64;
 
@@ -44,6 +47,7 @@ impl Limits {
             base: Limits::BASE,
             slice: Limits::SLICE,
             product: Limits::PRODUCT,
+            axes: Limits::AXES,
             rows: Limits::ROWS,
             cols: Limits::COLS,
             depth: Limits::DEPTH,

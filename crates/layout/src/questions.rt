@@ -4,7 +4,7 @@ ghost use Rattle.layout.specs.declared.layout.Axis.{Axis};
 ghost use Prim.Native.Nat.{_+_, _*_, min, _≤_};
 ghost use lib.Dec.{leb};
 ghost use lib.IntN.{natAbs};
-ghost use Rattle.layout.specs.Limits.{strideLimit, productLimit};
+ghost use Rattle.layout.specs.Limits.{strideLimit, productLimit, axesLimit};
 ghost use Rattle.layout.specs.Labels.{listed};
 ghost use Rattle.layout.specs.Checked.{Checked, ValidOf};
 ghost use Rattle.layout.specs.Layout.{axes};
@@ -60,7 +60,7 @@ impl Valid {
 
 // Questions 3 and 4, and question 5 of the strides.
 pub fn valid_of(x: Axes) -> Valid
-    requires { ⌜ x .count ≤ 24 ⌝ }
+    requires { ⌜ x .count ≤ axesLimit ⌝ }
     ensures { λ r. ⌜ ValidOf (listed x) r ⌝ }
 {
     let items = x.items;
@@ -87,7 +87,7 @@ pub fn sizes_valid(l: Layout, strides: bool, length: usize) -> bool
 
 // Question 6.
 pub fn extents_agree(x: Axes) -> bool
-    requires { ⌜ x .count ≤ 24 ⌝ }
+    requires { ⌜ x .count ≤ axesLimit ⌝ }
     ensures { λ r. ⌜ r ≡ extentsAgree (listed x) ⌝ }
 {
     let items = x.items;
