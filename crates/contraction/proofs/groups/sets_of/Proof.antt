@@ -17,10 +17,10 @@ returns c =
     let fits-three : three < 2 ^ 64 = omega (arith, c .fits .a .fits, and-le-l (bitAnd a b) d, and-le-l a b) in
     let fits-two : two < 2 ^ 64 = omega (arith, c .fits .b .fits, and-le-l (bitAnd b d) ((2 ^ 64 - 1) - a), and-le-l b d) in
     record {
-      batch = λ k. rw (has-and (bitAnd a b) d k, has-and a b k);
-      column = λ k. rw (has-and (bitAnd b d) ((2 ^ 64 - 1) - a) k, has-and b d k, has-not a k (c .fits .a .fits));
+      batch = λ k. rw (has-and, has-and);
+      column = λ k. rw (has-and, has-and, has-not a k (c .fits .a .fits));
       row = λ k. rw (has-and d ((2 ^ 64 - 1) - bitOr three two) k, has-not (bitOr three two) k (or-lt 64 three two fits-three fits-two), has-or three two k);
-      depth = λ k. rw (has-and (bitOr a b) ((2 ^ 64 - 1) - d) k, has-or a b k, has-not d k (c .fits .d .fits));
+      depth = λ k. rw (has-and, has-or, has-not d k (c .fits .d .fits));
     }
 
 pub sets-of-spec : {M : Type 1} → statement M

@@ -18,12 +18,12 @@ of-requires-3 c κs = c .before .before .before .before .before .pre .each D
 with-requires : tie.Need-with-requires
 with-requires c κs =
     let p = c .before .before .before .before .before .before .pre in
-    (omega (arith, c .of3 .ensures .1, p .each D), p .each A)
+    (omega (arith, c .of3 .ensures .1, p .each D), omega (arith, p .each A, p .each B))
 
 with-requires-2 : tie.Need-with-requires-2
 with-requires-2 c κs =
     let p = c .before .before .before .before .before .before .before .pre in
-    (omega (arith, c .with .ensures .1, c .before .of3 .ensures .1, p .each D, p .each A), p .each B)
+    (omega (arith, c .with .ensures .1, c .before .of3 .ensures .1, p .each D, p .each A, p .each B), omega (arith, p .each A, p .each B))
 
 returns : tie.Need-returns
 unfolding together
