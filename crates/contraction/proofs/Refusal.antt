@@ -85,7 +85,13 @@ module _ {r p : Bool} (e : r ≡ p) where
   pub passes : not r ≡ false → p ≡ true
   passes t = sym e ∙ not-false r t
 
--- four questions that code asks from the last to the first, with their answers as the definitions have them
-pub asked-four : (i j k l : ℕ) {p q s u P Q S U : Bool} {d c b a : ℕ} → p ≡ P → q ≡ Q → s ≡ S → u ≡ U
-    → d ≡ cond u 0 l → c ≡ cond s d k → b ≡ cond q c j → a ≡ cond p b i → a ≡ refusal (ask i P ∷ ask j Q ∷ ask k S ∷ ask l U ∷ [])
-asked-four i j k l ep eq es eu ed ec eb ea = rw (ea, eb, ec, ed, ep, eq, es, eu)
+-- the number that a list of questions refuses with
+pub record Refuses (qs : List Question) (r : ℕ) : Type 0 where
+  pub number : r ≡ refusal qs
+
+pub none-left : Refuses [] 0
+none-left = record { number = refl }
+
+-- a question that code asks before others, its answer as the definition has it: one more question is one more step
+pub asked : (n : ℕ) {p q : Bool} {qs : List Question} {others r : ℕ} → p ≡ q → Refuses qs others → r ≡ cond p others n → Refuses (ask n q ∷ qs) r
+asked n e f g = record { number = rw (g, e, f .number) }

@@ -1,6 +1,6 @@
 -- What the code of the later questions and of the plan may assume, since earlier questions passed. Inside contracts only: no outside call requires any of it.
 -- Assumes nothing.
-use Prim.Native.Nat.{ℕ, _≤_, _<_}
+use Prim.Native.Nat.{ℕ, _^_, _≤_, _<_}
 use mathlib.Core.Path.{_≡_}
 use mathlib.Core.List.{List}
 use lib.IntN.{natAbs}
@@ -54,7 +54,7 @@ pub record Accepted (t : Operand → Layout) (n : Operand → ℕ) : Type 0 wher
 
 -- a label whose strides times a 32-bit extent fit 64 bits
 pub record Small (l : Label) : Type 0 where
-  pub strides : (o : Operand) → natAbs (l .stride o) < 1073741824
+  pub strides : (o : Operand) → natAbs (l .stride o) < 2 ^ 30
 
 -- labels whose joined extents fit 32 bits, and their strides 64
 pub record Foldable (g : List Label) : Type 0 where

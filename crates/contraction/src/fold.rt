@@ -1,5 +1,5 @@
 ghost use mathlib.Core.Path.{_≡_};
-ghost use Prim.Native.Nat.{_+_, _*_, _<_, _≤_};
+ghost use Prim.Native.Nat.{_+_, _*_, _^_, _<_, _≤_};
 ghost use lib.IntN.{pos, natAbs, _*ℤ_};
 ghost use Rattle.words.specs.Words.{signed};
 ghost use Rattle.layout.specs.Limits.{axesLimit};
@@ -11,7 +11,7 @@ use super::groups::Group;
 
 // Is the stride that of the label before times that one's extent? Strides are address words.
 fn follows(extent: u32, before: u64, stride: u64) -> bool
-    requires { ⌜ natAbs (signed before) < 1073741824 ⌝ }
+    requires { ⌜ natAbs (signed before) < 2 ^ 30 ⌝ }
     ensures { λ r. ⌜ r ≡ eqℤ (signed stride) (pos extent *ℤ signed before) ⌝ }
 {
     let times = extent as u64;
@@ -31,7 +31,7 @@ fn continues(p: Dim, l: Dim) -> bool
 
 // The two as one label.
 fn joined(p: Dim, l: Dim) -> Dim
-    requires { ⌜ p .extent * l .extent < 4294967296 ⌝ }
+    requires { ⌜ p .extent * l .extent < 2 ^ 32 ⌝ }
     ensures { λ r. ⌜ asLabel r ≡ join (asLabel p) (asLabel l) ⌝ }
 {
     Dim {

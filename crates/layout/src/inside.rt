@@ -1,6 +1,7 @@
 ghost use mathlib.Core.Path.{_≡_};
 ghost use Prim.Native.Nat.{_+_, _*_, _-_, _^_, _<_, _≤_};
 ghost use Rattle.words.specs.Words.{up, down, signed};
+ghost use Rattle.layout.specs.Limits.{extentLimit};
 ghost use Rattle.layout.specs.Labels.{listed};
 ghost use Rattle.layout.specs.Checked.{Checked};
 ghost use Rattle.layout.specs.Questions.{span, inside};
@@ -19,7 +20,7 @@ pub struct Reach {
 impl Reach {
     // The reach with one label more.
     fn with(self, extent: u32, stride: u64) -> Reach
-        requires { ⌜ (self .up < 2 ^ 60) × (self .down < 2 ^ 60) × (extent ≤ 65536) × (up (signed stride) < 2 ^ 32) × (down (signed stride) < 2 ^ 32) ⌝ }
+        requires { ⌜ (self .up < 2 ^ 60) × (self .down < 2 ^ 60) × (extent ≤ extentLimit) × (up (signed stride) < 2 ^ 32) × (down (signed stride) < 2 ^ 32) ⌝ }
         ensures { λ r. ⌜ (r .up ≡ (extent - 1) * up (signed stride) + self .up) × (r .down ≡ (extent - 1) * down (signed stride) + self .down) ⌝ }
     {
         let last = last_index(extent);

@@ -4,7 +4,7 @@ use Rattle.layout.specs.Layout.{axes}
 use Rattle.layout.specs.Questions.{lettersValid, extentsValid}
 use Rattle.contraction.specs.Operands.{A, B, D, tensors}
 use Rattle.contraction.specs.Questions.{eachTensor}
-use Rattle.contraction.proofs.Refusal.{three-ofEach, fails, passes, asked-four}
+use Rattle.contraction.proofs.Refusal.{three-ofEach, fails, passes, none-left, asked}
 use Rattle.contraction.proofs.Ready.{ranks-low}
 use borrow.Author.Needs.{needs}
 use Rattle.contraction.proofs.questions.each_refusal.Statement.{statement}
@@ -50,22 +50,18 @@ ask-requires-4 c κs = search needs
 returns-2 : tie.Need-returns-2
 unfolding eachTensor
 returns-2 c =
-    let asked = c .before .before .before .before in
+    let k = c .before .before .before .before in
     let v = c .before .before .before .before .before .before .before .before .before .before .before in
     let one = v .before .before in
+    let each = v .answers-of .ensures .each in
     let t = tensors (one .before .before .args .c) in
-    rw (passes (one .before .ranks-fit .ensures) (one .if1 .left))
-    (asked-four 2 3 4 5
-    (asked .before .before .before .counts-match .ensures)
-    (three-ofEach (λ o. lettersValid (axes (t o))) (asked .before .before .of-each .ensures)
-    (v .answers-of .ensures .each A .letters) (v .answers-of .ensures .each B .letters) (v .answers-of .ensures .each D .letters))
-    (three-ofEach (λ o. extentsValid (axes (t o))) (asked .before .of-each2 .ensures)
-    (v .answers-of .ensures .each A .extents) (v .answers-of .ensures .each B .extents) (v .answers-of .ensures .each D .extents))
-    (asked .sizes-valid .ensures)
-    (c .before .before .before .ask .ensures)
-    (c .before .before .ask2 .ensures)
-    (c .before .ask3 .ensures)
-    (c .ask4 .ensures))
+    let letters = three-ofEach (λ o. lettersValid (axes (t o))) (k .before .before .of-each .ensures) (each A .letters) (each B .letters) (each D .letters) in
+    let extents = three-ofEach (λ o. extentsValid (axes (t o))) (k .before .of-each2 .ensures) (each A .extents) (each B .extents) (each D .extents) in
+    let five = asked 5 (k .sizes-valid .ensures) none-left (c .before .before .before .ask .ensures) in
+    let four = asked 4 extents five (c .before .before .ask2 .ensures) in
+    let three = asked 3 letters four (c .before .ask3 .ensures) in
+    let two = asked 2 (k .before .before .before .counts-match .ensures) three (c .ask4 .ensures) in
+    rw (passes (one .before .ranks-fit .ensures) (one .if1 .left)) (two .number)
 
 pub each-refusal-spec : {M : Type 1} → statement M
 each-refusal-spec =

@@ -5,7 +5,7 @@ use mathlib.Core.Path.{ap, _∙_}
 use Rattle.layout.specs.Questions.{extentsAgree, pointsFit, apart}
 use Rattle.contraction.specs.Operands.{D}
 use Rattle.contraction.specs.Questions.{allLabels, entries}
-use Rattle.contraction.proofs.Refusal.{asked-four}
+use Rattle.contraction.proofs.Refusal.{none-left, asked}
 use Rattle.contraction.proofs.Ready.{all-listed}
 use borrow.Author.Needs.{needs}
 use Rattle.contraction.proofs.questions.later_refusal.Statement.{statement}
@@ -39,17 +39,12 @@ returns : tie.Need-returns
 unfolding allLabels entries
 returns c =
     let s = c .before .before .before .before .before .before .before .before .before .before in
-    let asked = c .before .before .before .before in
+    let k = c .before .before .before .before in
     let l = all-listed (s .args .c) (s .args .x) (s .pre .lists) in
-    asked-four 6 7 8 9
-    (asked .before .before .before .extents-agree .ensures ∙ ap extentsAgree l)
-    (asked .before .before .points-fit .ensures ∙ ap pointsFit l)
-    (asked .before .entries-inside .ensures)
-    (asked .all-apart .ensures ∙ ap apart (s .pre .lists .each D))
-    (c .before .before .before .ask .ensures)
-    (c .before .before .ask2 .ensures)
-    (c .before .ask3 .ensures)
-    (c .ask4 .ensures)
+    let nine = asked 9 (k .all-apart .ensures ∙ ap apart (s .pre .lists .each D)) none-left (c .before .before .before .ask .ensures) in
+    let eight = asked 8 (k .before .entries-inside .ensures) nine (c .before .before .ask2 .ensures) in
+    let seven = asked 7 (k .before .before .points-fit .ensures ∙ ap pointsFit l) eight (c .before .ask3 .ensures) in
+    asked 6 (k .before .before .before .extents-agree .ensures ∙ ap extentsAgree l) seven (c .ask4 .ensures) .number
 
 pub later-refusal-spec : {M : Type 1} → statement M
 later-refusal-spec =
