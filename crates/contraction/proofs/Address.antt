@@ -1,7 +1,7 @@
 -- The address at the index of four counts is the base and the four offsets.
 -- Assumes nothing.
-use mathlib.Core.Path.{_≡_, refl, ap, _∙_}
-use mathlib.Core.Bool.{Bool, true, false, cond}
+use mathlib.Core.Path.{_≡_, refl, ap, sym, _∙_}
+use mathlib.Core.Bool.{Bool, true, false, cond, true≢false}
 use mathlib.Core.List.{List, [], _∷_, map}
 use mathlib.Core.Logic.{_≢_}
 use Prim.Native.Nat.{ℕ, _+_, _*_, _-_, _/_, _%_}
@@ -21,7 +21,7 @@ use Rattle.layout.proofs.Stride.{partOf, strideOf-parts}
 use Rattle.layout.proofs.ByLabel.{labels-unique}
 use Rattle.layout.proofs.Address.{along-zero}
 use Rattle.contraction.specs.Operands.{Operand, Shape, shape, together}
-use Rattle.contraction.specs.Groups.{Label, label, Group, batch, row, column, depth, groupOf, number, inGroup, group, offset, offsetIn}
+use Rattle.contraction.specs.Groups.{Label, label, Group, batch, row, column, depth, groupOf, number, inGroup, labelsWhere, group, offset, offsetIn}
 use Rattle.contraction.specs.Index.{assign, at, index, overGroups}
 
 -- the letter is none of the group's
@@ -61,33 +61,48 @@ module _ (s : Shape) where
   map-distinct [] u = tt
   map-distinct (c ∷ cs) u = (all-map _ (label s) cs (u .0), map-distinct cs (u .1))
 
+  -- ---- the labels whose letters pass any test
+  module _ (p : ℕ → Bool) where
+    pub where-distinct : Distinct (labelsWhere s p)
+    where-distinct = map-distinct (keep p (labels (together s))) (keep-unique p (labels (together s)) (labels-unique (together s)))
+
+    pub where-own : All (λ l. p (l .letter) ≡ true) (labelsWhere s p)
+    where-own = all-map (λ l. p (l .letter) ≡ true) (label s) (keep p (labels (together s))) (keep-passes p (labels (together s)))
+
+  -- a letter that fails the test keeps its value
+  pub where-clear : (p : ℕ → Bool) (n : ℕ) (ρ : ℕ → ℕ) (c : ℕ) → p c ≡ false → at (labelsWhere s p) n ρ c ≡ ρ c
+  where-clear p n ρ c h =
+      at-fresh (labelsWhere s p) n ρ c
+      (all-imp (λ l e. eqb-ne c (l .letter) (λ q. true≢false (sym e ∙ ap p (sym q) ∙ h))) (labelsWhere s p) (where-own p))
+
   pub group-distinct : (g : Group) → Distinct (group s g)
   unfolding group
-  group-distinct g = map-distinct (keep (inGroup s g) (labels (together s))) (keep-unique (inGroup s g) (labels (together s)) (labels-unique (together s)))
+  group-distinct g = where-distinct (inGroup s g)
 
   -- each letter of a group is of that group
   pub group-own : (g : Group) → All (λ l. number (groupOf s (l .letter)) ≡ number g) (group s g)
   unfolding group inGroup
-  group-own g =
-      all-map (λ l. number (groupOf s (l .letter)) ≡ number g) (label s) (keep (inGroup s g) (labels (together s)))
-      (all-imp (λ c. eqb-true (number (groupOf s c)) (number g)) (keep (inGroup s g) (labels (together s))) (keep-passes (inGroup s g) (labels (together s))))
-
-  pub group-fresh : (g : Group) (c : ℕ) → number (groupOf s c) ≢ number g → Fresh c (group s g)
-  group-fresh g c h = all-imp (λ l e. eqb-ne c (l .letter) (λ p. h (ap (λ (x : ℕ). number (groupOf s x)) p ∙ e))) (group s g) (group-own g)
+  group-own g = all-imp (λ l. eqb-true (number (groupOf s (l .letter))) (number g)) (group s g) (where-own (inGroup s g))
 
   -- a count of one group leaves the letters of the others as they are
   pub clear : (g : Group) (n : ℕ) (ρ : ℕ → ℕ) (c : ℕ) → number (groupOf s c) ≢ number g → at (group s g) n ρ c ≡ ρ c
-  clear g n ρ c h = at-fresh (group s g) n ρ c (group-fresh g c h)
+  unfolding group inGroup
+  clear g n ρ c h = where-clear (inGroup s g) n ρ c (eqb-ne (number (groupOf s c)) (number g) h)
 
   module _ (part : ℤ → ℕ) (o : Operand) where
     -- the part of a label's strides in a tensor
-    share : Label → ℕ
+    pub share : Label → ℕ
     share l = partOf part (s o) (l .letter)
 
-    along-group : (g : Group) (n : ℕ) (ρ : ℕ → ℕ) → ((c : ℕ) → number (groupOf s c) ≡ number g → ρ c ≡ 0)
-        → along part (s o) (at (group s g) n ρ) ≡ along part (s o) ρ + offset share (group s g) n
+    pub along-where : (p : ℕ → Bool) (n : ℕ) (ρ : ℕ → ℕ) → ((c : ℕ) → p c ≡ true → ρ c ≡ 0)
+        → along part (s o) (at (labelsWhere s p) n ρ) ≡ along part (s o) ρ + offset share (labelsWhere s p) n
     unfolding share
-    along-group g n ρ z = along-at part (s o) (group s g) n ρ (group-distinct g) (all-imp (λ l. z (l .letter)) (group s g) (group-own g))
+    along-where p n ρ z = along-at part (s o) (labelsWhere s p) n ρ (where-distinct p) (all-imp (λ l. z (l .letter)) (labelsWhere s p) (where-own p))
+
+    pub along-group : (g : Group) (n : ℕ) (ρ : ℕ → ℕ) → ((c : ℕ) → number (groupOf s c) ≡ number g → ρ c ≡ 0)
+        → along part (s o) (at (group s g) n ρ) ≡ along part (s o) ρ + offset share (group s g) n
+    unfolding group inGroup
+    along-group g n ρ z = along-where (inGroup s g) n ρ (λ c e. z c (eqb-true (number (groupOf s c)) (number g) e))
 
     along-index : (n : Group → ℕ) → along part (s o) (index s n) ≡ overGroups (λ g. offset share (group s g) (n g))
     unfolding index
@@ -105,10 +120,15 @@ module _ (s : Shape) where
   balanced o (c ∷ cs) n =
       omega (arith, balanced o cs (n / label s c .extent), ap (λ (x : ℕ). n % label s c .extent * x) (strideOf-parts c (s o)))
 
-  group-balanced : (o : Operand) (g : Group) (n : ℕ)
+  -- the parts of the labels' strides and the parts that their axes have differ by as much
+  pub where-balanced : (o : Operand) (p : ℕ → Bool) (n : ℕ)
+      → offsetIn up o (labelsWhere s p) n + offset (share down o) (labelsWhere s p) n ≡ offsetIn down o (labelsWhere s p) n + offset (share up o) (labelsWhere s p) n
+  where-balanced o p n = balanced o (keep p (labels (together s))) n
+
+  pub group-balanced : (o : Operand) (g : Group) (n : ℕ)
       → offsetIn up o (group s g) n + offset (share down o) (group s g) n ≡ offsetIn down o (group s g) n + offset (share up o) (group s g) n
   unfolding group
-  group-balanced o g n = balanced o (keep (inGroup s g) (labels (together s))) n
+  group-balanced o g n = where-balanced o (inGroup s g) n
 
 -- the address at four counts is the base and the four offsets
 pub address-index : (t : Operand → Layout) (o : Operand) (n : Group → ℕ)

@@ -1,48 +1,87 @@
--- The groups of a contraction that was accepted can be folded: every extent is 1 or more, every stride is small, and the product over the
--- letters that a group keeps is at most the product over all.
+-- The labels of a contraction that was accepted can be folded: every extent is 1 or more, every stride is small, and the product over the
+-- letters that pass any test is at most the product over all.
 -- Assumes nothing.
 use mathlib.Core.Path.{_≡_, fun-ext}
-use mathlib.Core.List.{_++_, map}
-use Prim.Native.Nat.{ℕ, _≤_, _<_}
+use mathlib.Core.Bool.{Bool, _&&_}
+use mathlib.Core.List.{List, [], _∷_, _++_}
+use Prim.Native.Nat.{ℕ, _<_}
+use native.Mathlib.Decide.{ℕ-discrete}
 use native.Mathlib.Omega.{arith}
 use borrow.Author.Tests.{leb-true}
+use lib.Dec.{leb}
+use lib.ListN.{getD}
 use Rattle.words.specs.Sums.{product}
 use Rattle.words.specs.Lists.{keep}
 use Rattle.words.proofs.Lists.{all-of, all-map}
-use Rattle.words.proofs.Sums.{product-keep, product-map}
-use Rattle.layout.specs.Limits.{productLimit}
+use Rattle.words.proofs.Sums.{product-keep, product-map, and-split}
+use Rattle.words.proofs.Tabulate.{length-tabulate}
+use Rattle.layout.specs.declared.layout.Layout.{Layout}
+use Rattle.layout.specs.Limits.{rankLimit, baseLimit, sliceLimit, productLimit}
+use Rattle.layout.specs.Layout.{noAxis, axes}
 use Rattle.layout.specs.Labels.{extentOf, labels}
-use Rattle.layout.specs.Questions.{points, pointsFit}
-use Rattle.layout.proofs.Facts.{extents-bound, small-stride}
+use Rattle.layout.specs.Questions.{rankFits, extentsValid, stridesValid, sizesValid, points, pointsFit}
+use Rattle.layout.proofs.Facts.{extents-bound, strides-bound}
 use Rattle.contraction.specs.declared.contraction.Contraction.{Contraction}
 use Rattle.contraction.specs.declared.contraction.Lengths.{Lengths}
 use Rattle.contraction.specs.declared.operands.Operands.{Operands}
-use Rattle.contraction.specs.Operands.{tensors, lengths, shape, shapeOf, together, axesIn}
-use Rattle.contraction.specs.Groups.{Label, Group, inGroup, group, label, size}
+use Rattle.contraction.specs.Operands.{Operand, tensors, lengths, shape, shapeOf, together}
+use Rattle.contraction.specs.Groups.{Label, Group, inGroup, labelsWhere, group, outputs, label, size}
+use Rattle.contraction.specs.Fold.{addTo, fold}
 use Rattle.contraction.specs.Questions.{refusal, eachTensor, allLabels, entries, layoutQuestions}
 use Rattle.contraction.specs.Ready.{LowRank, Lists, Gathered, Small, Foldable, Accepted}
 use Rattle.contraction.proofs.Refusal.{refusal-both}
-use Rattle.contraction.proofs.Ready.{accepted-parts, low-rank, ready-of}
+use Rattle.contraction.proofs.Ready.{AllPassed, every-together, low-rank, ready-of}
+use Rattle.contraction.proofs.Folding.{Folding, fold-start, fold-end, fold-skip, fold-add}
 
-module _ (x : Operands) (h : Gathered x) where
-  extent-pos : (c : ℕ) → 0 < label (shapeOf x) c .extent
-  extent-pos c = extents-bound (together (shapeOf x)) (rw (← h .all) (h .whole .extents)) c .0
+module _ (t : Operand → Layout) (n : Operand → ℕ) (p : AllPassed t n) where
+  extent-pos : (c : ℕ) → 0 < label (shape t) c .extent
+  unfolding extentsValid
+  extent-pos c = extents-bound (together (shape t)) (every-together _ (shape t) (λ o. rw (p .each .extents o) tt)) c .0
 
-  small : (c : ℕ) → Small (label (shapeOf x) c)
-  small c = record { strides = λ o. omega (arith, small-stride (axesIn x o) (h .each o .few) (h .each o .strides) c) }
-
-  pub group-foldable : points (together (shapeOf x)) ≤ productLimit → (g : Group) → Foldable (group (shapeOf x) g)
-  unfolding group points
-  group-foldable k g =
-      let s = shapeOf x in
-      let cs = labels (together s) in
-      let e : size (map (label s) (keep (inGroup s g) cs)) ≡ product (λ c. extentOf c (together s)) (keep (inGroup s g) cs) =
-      product-map (λ (l : Label). l .extent) (label s) (keep (inGroup s g) cs) in
+  small : (c : ℕ) → Small (label (shape t) c)
+  unfolding axes rankFits sizesValid
+  small c =
       record {
-        extents = all-map (λ l. 0 < l .extent) (label s) (keep (inGroup s g) cs) (all-of extent-pos (keep (inGroup s g) cs));
-        strides = all-map Small (label s) (keep (inGroup s g) cs) (all-of small (keep (inGroup s g) cs));
-        points = omega (arith, k, e, product-keep (λ c. extentOf c (together s)) extent-pos (inGroup s g) cs);
+        strides =
+            λ o. omega (
+              arith,
+              leb-true (t o .«letter_count») rankLimit (p .each .ranks o),
+              length-tabulate (t o .«letter_count») (λ i. getD (t o .axes) i noAxis),
+              strides-bound (axes (t o)) (and-split (stridesValid (axes (t o))) (leb (t o .base) baseLimit && leb (n o) sliceLimit) (rw (p .each .sizes o) tt) .0) c,
+            );
       }
+
+  pub where-foldable : (q : ℕ → Bool) → Foldable (labelsWhere (shape t) q)
+  unfolding points pointsFit
+  where-foldable q =
+      let s = shape t in
+      let cs = labels (together s) in
+      let e : size (labelsWhere s q) ≡ product (λ c. extentOf c (together s)) (keep q cs) = product-map (λ (l : Label). l .extent) (label s) (keep q cs) in
+      record {
+        extents = all-map (λ l. 0 < l .extent) (label s) (keep q cs) (all-of extent-pos (keep q cs));
+        strides = all-map Small (label s) (keep q cs) (all-of small (keep q cs));
+        points = omega (arith, leb-true (points (together s)) productLimit (p .fit), e, product-keep (λ c. extentOf c (together s)) extent-pos q cs);
+      }
+
+  pub group-foldable : (g : Group) → Foldable (group (shape t) g)
+  unfolding group
+  group-foldable g = where-foldable (inGroup (shape t) g)
+
+  pub outputs-foldable : Foldable (outputs (shape t))
+  unfolding outputs
+  outputs-foldable = where-foldable _
+
+-- what is folded can be folded again
+pub fold-foldable : (g : List Label) → Foldable g → Foldable (fold g)
+fold-foldable g h = go g [] (fold-start g h)
+  where
+    go : (rest done : List Label) → Folding done rest g → Foldable (fold g)
+    go [] done f = rw (← fold-end done g f) (f .foldable)
+    go (l ∷ rest) done f = step (ℕ-discrete (l .extent) 1) (λ e. go rest done (fold-skip done rest g l f e)) (λ e. go rest (addTo done l) (fold-add done rest g l f e))
+      where
+        step : {X : Type 0} → Dec (l .extent ≡ 1) → (l .extent ≡ 1 → X) → ((l .extent ≡ 1 → ⊥) → X) → X
+        step (yes e) f g = f e
+        step (no e) f g = g e
 
 module _ (c : Contraction) (n : Lengths) (a : Accepted (tensors c) (lengths n)) where
   each-accepted : refusal (eachTensor (tensors c) (lengths n)) ≡ 0
@@ -59,9 +98,3 @@ module _ (c : Contraction) (n : Lengths) (a : Accepted (tensors c) (lengths n)) 
     -- the code's lists have the tensors' axes
     pub same-shape : shapeOf x ≡ shape (tensors c)
     same-shape = fun-ext (l .each)
-
-    pub accepted-foldable : (g : Group) → Foldable (group (shapeOf x) g)
-    unfolding pointsFit
-    accepted-foldable =
-        let b : points (together (shape (tensors c))) ≤ productLimit = leb-true (points (together (shape (tensors c)))) productLimit (accepted-parts (tensors c) (lengths n) (a .passed) .fit) in
-        group-foldable x accepted-gathered (rw same-shape b)

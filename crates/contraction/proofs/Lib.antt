@@ -7,10 +7,14 @@ pub mod Folding
 pub mod Index
 pub mod LabelLists
 pub mod Nested
+pub mod OffsetWords
 pub mod Onto
+pub mod Outputs
+pub mod Reached
 pub mod Ready
 pub mod Refusal
 pub mod Result
 pub mod Sets
 pub mod Starred
+pub mod Values
 pub mod Wrapped

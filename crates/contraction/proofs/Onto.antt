@@ -15,12 +15,12 @@ use Rattle.layout.specs.Questions.{extentsAgree}
 use Rattle.layout.specs.Bounds.{InRange}
 use Rattle.layout.proofs.Address.{address-agree}
 use Rattle.contraction.specs.Operands.{Operand, D, shape, together}
-use Rattle.contraction.specs.Groups.{Label, letters, size}
-use Rattle.contraction.specs.Index.{at, outputs, outIndex}
+use Rattle.contraction.specs.Groups.{Label, letters, outputs, size}
+use Rattle.contraction.specs.Index.{at, outIndex}
 use Rattle.contraction.proofs.Digits.{lowest, rest}
 use Rattle.contraction.proofs.Address.{Distinct}
 use Rattle.contraction.proofs.Agree.{agree}
-use Rattle.contraction.proofs.Index.{outputs-all, outputs-at, outputs-distinct}
+use Rattle.contraction.proofs.Outputs.{outputs-all, outputs-at, outputs-distinct}
 
 -- the index gives each label of the list a value below its extent
 abbrev pub Within : List Label → (ℕ → ℕ) → Type 0

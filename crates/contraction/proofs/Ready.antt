@@ -67,7 +67,7 @@ accepted-parts t n e =
     }
 
 -- a test that passes at every axis of each tensor passes at every axis of all together
-every-together : (p : Axis → Bool) (s : Shape) → ((o : Operand) → T (every p (s o))) → T (every p (together s))
+pub every-together : (p : Axis → Bool) (s : Shape) → ((o : Operand) → T (every p (s o))) → T (every p (together s))
 unfolding together
 every-together p s h = every-append p (s D) (s A ++ s B) (h D) (every-append p (s A) (s B) (h A) (h B))
 

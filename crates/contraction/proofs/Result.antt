@@ -21,12 +21,13 @@ use Rattle.layout.proofs.Bounds.{inside-every}
 use Rattle.layout.proofs.StridesApart.{apart-injective}
 use Rattle.contraction.specs.declared.contraction.Contraction.{Contraction}
 use Rattle.contraction.specs.Operands.{Operand, A, B, D, tensors, shape, together}
-use Rattle.contraction.specs.Groups.{letters, depth, group, size}
-use Rattle.contraction.specs.Index.{at, outputs, outIndex}
+use Rattle.contraction.specs.Groups.{letters, depth, group, outputs, size}
+use Rattle.contraction.specs.Index.{at, outIndex}
 use Rattle.contraction.specs.Meaning.{Slices, shapeIn, entry, value, overwrite, result}
 use Rattle.contraction.proofs.Address.{group-distinct}
 use Rattle.contraction.proofs.Nested.{sumOver-is-sumTo}
-use Rattle.contraction.proofs.Index.{at-injective, outputs-all, outputs-distinct, out-in-range}
+use Rattle.contraction.proofs.Index.{at-injective}
+use Rattle.contraction.proofs.Outputs.{outputs-all, outputs-distinct, out-in-range}
 
 module _ (place v : ℕ → ℕ) (w : List ℕ) where
   pub length-overwrite : (n : ℕ) → length (overwrite n place v w) ≡ length w
@@ -74,6 +75,10 @@ module _ (c : Contraction) (w : Slices) where
   result-at same fits spread m h =
       overwrite-at (λ m. address (tensors c D) (outIndex (shapeIn c) m)) (λ m. value c w (outIndex (shapeIn c) m)) (w D) (size (outputs (shapeIn c))) m h
       (outputs-apart (tensors c) (length (w D)) same fits spread) (output-inside (tensors c) (length (w D)) same fits m h .1)
+
+  pub length-result : length (result c w) ≡ length (w D)
+  unfolding result
+  length-result = length-overwrite (λ m. address (tensors c D) (outIndex (shapeIn c) m)) (λ m. value c w (outIndex (shapeIn c) m)) (w D) (size (outputs (shapeIn c)))
 
   pub result-other : (p : ℕ) → ((m : ℕ) → m < size (outputs (shapeIn c)) → address (tensors c D) (outIndex (shapeIn c) m) ≢ p)
       → getD (result c w) p 0 ≡ getD (w D) p 0

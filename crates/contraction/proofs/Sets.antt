@@ -18,7 +18,7 @@ use Rattle.layout.specs.Questions.{lettersValid}
 use Rattle.contraction.specs.declared.groups.Sets.{Sets}
 use Rattle.contraction.specs.declared.operands.Operands.{Operands}
 use Rattle.contraction.specs.Operands.{Operand, A, B, D, together, shapeOf}
-use Rattle.contraction.specs.Groups.{Group, batch, row, column, depth, groupBy, groupOf, number, inGroup, group, label, letters}
+use Rattle.contraction.specs.Groups.{Group, batch, row, column, depth, groupBy, groupOf, number, inGroup, group, outputs, label, letters}
 use Rattle.contraction.specs.Sets.{Split}
 use Rattle.contraction.specs.Ready.{Gathered}
 
@@ -61,10 +61,11 @@ set-group false true false h = of-each _ refl refl refl refl
 set-group false false true h = of-each _ refl refl refl refl
 set-group false false false h = absurd (true≢false (sym h))
 
-module _ (x : Operands) (h : Gathered x) (ls : Operand → Letters) (spelt : (o : Operand) → Spells (ls o) (labels (shapeOf x o))) where
-  has-letter : (o : Operand) (c : ℕ) → isLetter c ≡ true → has (ls o .set) c ≡ member c (letters (shapeOf x) o)
+module _ (x : Operands) (h : Gathered x) where
+  -- a tensor's set has just its letters
+  has-letter : (o : Operand) (l : Letters) → Spells l (labels (shapeOf x o)) → (c : ℕ) → isLetter c ≡ true → has (l .set) c ≡ member c (letters (shapeOf x) o)
   unfolding labels
-  has-letter o c v = spelt o .sets c v ∙ member-once c (letters (shapeOf x) o)
+  has-letter o l e c v = e .sets c v ∙ member-once c (letters (shapeOf x) o)
 
   valid : All (λ c. isLetter c ≡ true) (labels (together (shapeOf x)))
   unfolding labels lettersValid
@@ -73,6 +74,16 @@ module _ (x : Operands) (h : Gathered x) (ls : Operand → Letters) (spelt : (o 
       (all-once (λ c. isLetter c ≡ true) (lettersOf (listed (x .all)))
       (all-map (λ c. isLetter c ≡ true) (λ (a : Axis). a .letter) (listed (x .all))
       (all-imp (λ a. T-true (isLetter (a .letter))) (listed (x .all)) (every-all (λ (a : Axis). isLetter (a .letter)) (listed (x .all)) (h .whole .letters)))))
+
+  -- the labels of the letters that D's set has are D's labels
+  pub kept-output : (l : Letters) → Spells l (labels (shapeOf x D)) → map (label (shapeOf x)) (keep (has (l .set)) (labels (listed (x .all)))) ≡ outputs (shapeOf x)
+  unfolding outputs
+  kept-output l e =
+      rw (
+        h .all,
+        keep-ext (has (l .set)) (λ c. member c (letters (shapeOf x) D)) (labels (together (shapeOf x)))
+            (all-imp (has-letter D l e) (labels (together (shapeOf x))) valid),
+      )
 
   somewhere : All (λ c. (member c (letters (shapeOf x) D) || (member c (letters (shapeOf x) A) || member c (letters (shapeOf x) B))) ≡ true) (labels (together (shapeOf x)))
   unfolding labels together
@@ -87,7 +98,7 @@ module _ (x : Operands) (h : Gathered x) (ls : Operand → Letters) (spelt : (o 
             member-append c (letters (shapeOf x) A) (letters (shapeOf x) B),
           )
 
-  module _ (r : Sets) (s : Split (ls A .set) (ls B .set) (ls D .set) r) (g : Group) where
+  module _ (ls : Operand → Letters) (spelt : (o : Operand) → Spells (ls o) (labels (shapeOf x o))) (r : Sets) (s : Split (ls A .set) (ls B .set) (ls D .set) r) (g : Group) where
     in-set : All (λ c. has (setsIn r g) c ≡ inGroup (shapeOf x) g c) (labels (together (shapeOf x)))
     unfolding inGroup groupOf
     in-set = all-imp each (labels (together (shapeOf x))) (all-both _ _ (labels (together (shapeOf x))) valid somewhere)
@@ -95,7 +106,7 @@ module _ (x : Operands) (h : Gathered x) (ls : Operand → Letters) (spelt : (o 
         each : (c : ℕ) → (isLetter c ≡ true) × ((member c (letters (shapeOf x) D) || (member c (letters (shapeOf x) A) || member c (letters (shapeOf x) B))) ≡ true)
             → has (setsIn r g) c ≡ eqb (number (groupBy (member c (letters (shapeOf x) A)) (member c (letters (shapeOf x) B)) (member c (letters (shapeOf x) D)))) (number g)
         each c v =
-            rw (split-set (ls A .set) (ls B .set) (ls D .set) r s g c, has-letter A c (v .0), has-letter B c (v .0), has-letter D c (v .0))
+            rw (split-set (ls A .set) (ls B .set) (ls D .set) r s g c, has-letter A (ls A) (spelt A) c (v .0), has-letter B (ls B) (spelt B) c (v .0), has-letter D (ls D) (spelt D) c (v .0))
             (set-group (member c (letters (shapeOf x) A)) (member c (letters (shapeOf x) B)) (member c (letters (shapeOf x) D)) (v .1) g)
 
     -- the labels of the letters that a group's set has are the group

@@ -6,8 +6,8 @@ use Rattle.layout.specs.Layout.{axes, axesOf, layoutOf, address}
 use Rattle.layout.specs.Labels.{labels}
 use Rattle.layout.specs.Questions.{rankFits, countsMatch, lettersValid, extentsValid, stridesValid, sizesValid, extentsAgree, points, pointsFit, span, inside, below, apart}
 use Rattle.contraction.specs.Operands.{together}
-use Rattle.contraction.specs.Groups.{groupOf, inGroup, group}
-use Rattle.contraction.specs.Index.{outputs, outIndex}
+use Rattle.contraction.specs.Groups.{groupOf, inGroup, group, outputs}
+use Rattle.contraction.specs.Index.{outIndex}
 use Rattle.contraction.specs.Questions.{eachTensor, allLabels, entries, layoutQuestions}
 use Rattle.contraction.specs.Meaning.{entry, value, result}
 use Rattle.contraction.specs.Block.{classify}

@@ -29,7 +29,13 @@ address-folded t o n = rw (fu batch, fu row, fu column, fu depth, fd batch, fd r
     fd : (g : Group) → offsetIn down o (fold (group (shape t) g)) (n g) ≡ offsetIn down o (group (shape t) g) (n g)
     fd g = fold-down o (group (shape t) g) .offsets (n g)
 
-offset-word : (o : Operand) (g : List Label) (n : ℕ) → All (λ l. down (l .stride o) ≤ 2 ^ 64) g
+-- sums of words that wrap give the address: the words differ from the ups less the downs by whole rounds
+pub wraps : (base ups downs words rounds : ℕ) → words + downs ≡ ups + rounds * 2 ^ 64 → downs ≤ base + ups → (base + ups) - downs < 2 ^ 64
+    → word 64 (base + words) ≡ (base + ups) - downs
+wraps base ups downs words rounds e low high =
+    ap (λ (x : ℕ). x % 2 ^ 64) (omega (arith, e)) ∙ add-mul-mod-self-right ((base + ups) - downs) rounds (2 ^ 64) ∙ mod-eq-of-lt high
+
+pub offset-word : (o : Operand) (g : List Label) (n : ℕ) → All (λ l. down (l .stride o) ≤ 2 ^ 64) g
     → offsetIn (wordOf 64) o g n + offsetIn down o g n ≡ offsetIn up o g n + offsetIn sign o g n * 2 ^ 64
 offset-word o [] n h = refl
 offset-word o (l ∷ g) n h =
@@ -42,8 +48,7 @@ pub wrapped-offsets : (o : Operand) (base : ℕ) (gs : Group → List Label) (n 
     → word 64 (base + overGroups (λ g. offsetIn (wordOf 64) o (gs g) (n g)))
     ≡ (base + overGroups (λ g. offsetIn up o (gs g) (n g))) - overGroups (λ g. offsetIn down o (gs g) (n g))
 wrapped-offsets o base gs n small low high =
-    ap (λ (x : ℕ). x % 2 ^ 64) (omega (arith, part batch, part row, part column, part depth))
-    ∙ add-mul-mod-self-right _ (overGroups (λ g. offsetIn sign o (gs g) (n g))) (2 ^ 64) ∙ mod-eq-of-lt high
+    wraps base _ _ _ (overGroups (λ g. offsetIn sign o (gs g) (n g))) (omega (arith, part batch, part row, part column, part depth)) low high
   where
     part : (g : Group) → offsetIn (wordOf 64) o (gs g) (n g) + offsetIn down o (gs g) (n g) ≡ offsetIn up o (gs g) (n g) + offsetIn sign o (gs g) (n g) * 2 ^ 64
     part g = offset-word o (gs g) (n g) (small g)

@@ -3,16 +3,14 @@
 use Prim.Native.Nat.{ℕ}
 use mathlib.Core.Path.{_≡_}
 use mathlib.Core.List.{List, [], _∷_, map}
-use lib.ListN.{length}
 use lib.IntN.{ℤ, pos, negsuc}
 use Rattle.layout.specs.declared.layout.Layout.{Layout}
 use Rattle.layout.specs.Layout.{layoutOf}
 use Rattle.contraction.specs.declared.contraction.Contraction.{Contraction}
-use Rattle.contraction.specs.Operands.{three, tensors}
+use Rattle.contraction.specs.Operands.{three}
 use Rattle.contraction.specs.Groups.{Label}
 use Rattle.contraction.specs.Fold.{fold}
-use Rattle.contraction.specs.Questions.{refusal, layoutQuestions}
-use Rattle.contraction.specs.Meaning.{Slices, result}
+use Rattle.contraction.specs.Meaning.{Slices, firstNo, result}
 use Rattle.contraction.specs.Block.{Step, even, scattered, classify}
 
 -- a row of the table
@@ -21,10 +19,6 @@ pub data Edge : Type 0 where
   folds : List Label → List ℕ → Edge  -- the extents of the folded labels
   spaced : List ℕ → Step → Edge  -- the step of a block of offsets
   answers : Contraction → Slices → ℕ → Edge  -- the number that questions 1 to 9 answer
-
--- questions 1 to 9 of a contraction and its slices
-abbrev pub firstNo : Contraction → Slices → ℕ
-firstNo c w = refusal (layoutQuestions (tensors c) (λ o. length (w o)))
 
 abbrev pub Holds : Edge → Type 0
 Holds (gives c w ws) = (firstNo c w ≡ 0) × (result c w ≡ ws)

@@ -50,9 +50,17 @@ number depth = 3
 unfoldable pub inGroup : Shape → Group → ℕ → Bool
 inGroup s g c = eqb (number (groupOf s c)) (number g)
 
+-- the labels whose letters pass a test, in order of first appearance in D's labels, then A's, then B's
+abbrev pub labelsWhere : Shape → (ℕ → Bool) → List Label
+labelsWhere s p = map (label s) (keep p (labels (together s)))
+
 -- batch, row and column labels in order of first appearance in D's labels; depth in that of A's, then B's
 unfoldable pub group : Shape → Group → List Label
-group s g = map (label s) (keep (inGroup s g) (labels (together s)))
+group s g = labelsWhere s (inGroup s g)
+
+-- D's labels in order of first appearance: those of the batch, row and column groups
+unfoldable pub outputs : Shape → List Label
+outputs s = labelsWhere s (λ c. member c (letters s D))
 
 -- the product of the extents; an empty group has size 1
 abbrev pub size : List Label → ℕ

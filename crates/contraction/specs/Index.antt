@@ -2,11 +2,11 @@
 -- Assumes nothing.
 use Prim.Native.Nat.{ℕ, _+_, _/_, _%_}
 use mathlib.Core.Bool.{cond}
-use mathlib.Core.List.{List, [], _∷_, _++_}
+use mathlib.Core.List.{List, [], _∷_}
 use lib.Dec.{eqb}
 use Rattle.words.specs.Sums.{sumTo}
 use Rattle.contraction.specs.Operands.{Shape}
-use Rattle.contraction.specs.Groups.{Label, Group, batch, row, column, depth, group}
+use Rattle.contraction.specs.Groups.{Label, Group, batch, row, column, depth, group, outputs}
 
 -- the index ρ with the value v for the letter c
 abbrev pub assign : (ℕ → ℕ) → ℕ → ℕ → ℕ → ℕ
@@ -30,10 +30,6 @@ index s n = at (group s depth) (n depth) (at (group s batch) (n batch) (at (grou
 abbrev pub overGroups : (Group → ℕ) → ℕ
 overGroups f = f column + f row + f batch + f depth
 
--- the labels of D, those of the batch group first, then rows, then columns
-unfoldable pub outputs : Shape → List Label
-outputs s = group s batch ++ (group s row ++ group s column)
-
--- the index of an output count
+-- the index of a count of D's labels
 unfoldable pub outIndex : Shape → ℕ → ℕ → ℕ
 outIndex s m = at (outputs s) m (λ c. 0)

@@ -8,4 +8,5 @@ pub mod Block
 pub mod Edges
 pub mod Ready
 pub mod Sets
+pub mod Offsets
 pub mod Plan

@@ -2,17 +2,22 @@
 -- Assumes nothing.
 use Prim.Native.Nat.{ℕ, zero, suc, _+_, _*_}
 use mathlib.Core.List.{List}
-use lib.ListN.{getD, set}
+use lib.ListN.{getD, set, length}
 use Rattle.words.specs.Words.{word}
 use Rattle.layout.specs.Layout.{address}
 use Rattle.contraction.specs.declared.contraction.Contraction.{Contraction}
 use Rattle.contraction.specs.Operands.{Operand, A, B, D, Shape, tensors, shape}
-use Rattle.contraction.specs.Groups.{depth, group, size}
-use Rattle.contraction.specs.Index.{sumOver, outputs, outIndex}
+use Rattle.contraction.specs.Questions.{refusal, layoutQuestions}
+use Rattle.contraction.specs.Groups.{depth, group, outputs, size}
+use Rattle.contraction.specs.Index.{sumOver, outIndex}
 
 -- the words of each tensor's slice
 abbrev pub Slices : Type 0
 Slices = Operand → List ℕ
+
+-- questions 1 to 9 of a contraction and its slices: the number of the first no, 0 where all pass
+abbrev pub firstNo : Contraction → Slices → ℕ
+firstNo c w = refusal (layoutQuestions (tensors c) (λ o. length (w o)))
 
 abbrev pub shapeIn : Contraction → Shape
 shapeIn c = shape (tensors c)

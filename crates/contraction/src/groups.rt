@@ -1,12 +1,13 @@
 ghost use mathlib.Core.Path.{_≡_};
 ghost use mathlib.Core.List.{[], _∷_, _++_, map};
 ghost use Prim.Native.Nat.{_+_, _<_, _≤_};
+ghost use lib.ListN.{drop};
 ghost use Rattle.words.specs.Lists.{keep};
 ghost use Rattle.layout.specs.Limits.{axesLimit};
 ghost use Rattle.layout.specs.Letters.{has, spelled};
 ghost use Rattle.contraction.specs.Operands.{shapeOf};
-ghost use Rattle.contraction.specs.Groups.{label, asLabel, labelsIn};
-ghost use Rattle.contraction.specs.Ready.{Gathered};
+ghost use Rattle.contraction.specs.Groups.{label, outputs, size, asLabel, labelsIn};
+ghost use Rattle.contraction.specs.Ready.{Gathered, Foldable};
 ghost use Rattle.contraction.specs.Sets.{Split, Grouped};
 use super::operands::Operands;
 use layout::labels::extent_of;
@@ -105,6 +106,22 @@ impl Group {
         dims[n] = l;
         Group { dims, count: n + 1 }
     }
+
+    // The product of the extents of the labels from a place on.
+    pub fn size_from(self, start: usize) -> u32
+        requires { ⌜ (self .count ≤ axesLimit) × (start ≤ self .count) × Foldable (labelsIn self) ⌝ }
+        ensures { λ r. ⌜ r ≡ size (drop start (labelsIn self)) ⌝ }
+    {
+        let dims = self.dims;
+        let mut product: u32 = 1;
+        let mut i = self.count;
+        while i > start {
+            i -= 1;
+            let l = dims[i];
+            product = l.extent * product;
+        }
+        product
+    }
 }
 
 // The labels of the letters that the set has.
@@ -124,6 +141,18 @@ fn group_of(x: Operands, all: Letters, set: u64) -> Group
         i += 1;
     }
     group
+}
+
+// D's labels.
+pub fn output_of(x: Operands) -> Group
+    requires { ⌜ Gathered x ⌝ }
+    ensures { λ r. ⌜ (labelsIn r ≡ outputs (shapeOf x)) × (r .count ≤ axesLimit) ⌝ }
+{
+    let xd = x.d;
+    let xall = x.all;
+    let d = letters_of(xd);
+    let all = letters_of(xall);
+    group_of(x, all, d.set)
 }
 
 // The four groups of a contraction's labels.

@@ -4,16 +4,18 @@ ghost use Rattle.contraction.specs.Plan.{Planned};
 use super::contraction::Contraction;
 use super::contraction::Lengths;
 use super::fold::folded;
+use super::groups::Group;
 use super::groups::Groups;
 use super::groups::groups_of;
+use super::groups::output_of;
+use super::offsets::Offsets;
 use super::operands::Operands;
 
-// What both engines walk: the four folded groups, and where each tensor begins.
+// What the engines walk: the four groups and D's labels, folded, and where each tensor begins.
 pub struct Plan {
     pub groups: Groups,
-    pub a: u64,
-    pub b: u64,
-    pub d: u64,
+    pub output: Group,
+    pub base: Offsets,
 }
 
 // The plan of a contraction that questions 1 to 9 accept for slices of these lengths.
@@ -21,7 +23,9 @@ pub fn plan_of(c: Contraction, n: Lengths) -> Plan
     requires { ⌜ Accepted (tensors c) (lengths n) ⌝ }
     ensures { λ r. ⌜ Planned (tensors c) r ⌝ }
 {
-    let all = groups_of(Operands::of(c));
+    let x = Operands::of(c);
+    let output = output_of(x);
+    let all = groups_of(x);
     let batch = all.batch;
     let row = all.row;
     let column = all.column;
@@ -35,10 +39,14 @@ pub fn plan_of(c: Contraction, n: Lengths) -> Plan
         column: folded(column),
         depth: folded(depth),
     };
-    Plan {
-        groups,
+    let base = Offsets {
         a: a.base as u64,
         b: b.base as u64,
         d: d.base as u64,
+    };
+    Plan {
+        groups,
+        output: folded(output),
+        base,
     }
 }

@@ -44,6 +44,12 @@ module _ {Ix : Type 0} (at : Ix → ℕ) (In : Ix → Type 0) where
       pick x (yes w) = subst (λ (y : ℕ). getD E y 0 ≡ getD F y 0) (w .3) (c .hit (w .0) (w .1) (w .2) ∙ sym (d .hit (w .0) (w .1) (w .2)))
       pick x (no f) = let off : (q : Ix) → In q → P q → at q ≢ x = λ q k p e. f (q, k, p, e) in c .miss x off ∙ sym (d .miss x off)
 
+-- turns that do the same
+pub each-ext : {f g : ℕ → List ℕ → List ℕ} (n : ℕ) → ((k : ℕ) → k < n → (D : List ℕ) → f k D ≡ g k D) → (D : List ℕ) → each n f D ≡ each n g D
+unfolding each
+each-ext zero e D = refl
+each-ext {f} {g} (suc n) e D = ap (f n) (each-ext {f = f} {g = g} n (λ k h. e k (omega arith)) D) ∙ e n (omega arith) (each n g D)
+
 -- a loop in two parts
 pub each-add : (m n : ℕ) (body : ℕ → List ℕ → List ℕ) (D : List ℕ) → each (m + n) body D ≡ each n (λ k. body (m + k)) (each m body D)
 unfolding each

@@ -87,6 +87,14 @@ signed-word (negsuc n) h =
     let e : (2 ^ 64 - 1) - (2 ^ 64 - suc n) ≡ n = omega arith in
     rw (le-ltb (2 ^ 64 - suc n) (2 ^ 63) (omega arith), e)
 
+-- a word is that of the number that it reads as
+pub word-signed : (x : ℕ) → x < 2 ^ 64 → wordOf 64 (signed x) ≡ x
+word-signed x h = go (ltb x (2 ^ 63))
+  where
+    go : (c : Bool) → wordOf 64 (cond c (pos x) (negsuc ((2 ^ 64 - 1) - x))) ≡ x
+    go true = refl
+    go false = omega arith
+
 -- the word of a sum is the sum of the words, modulo 2 ^ 64
 pub word-add : (x y : ℤ) → natAbs x < 2 ^ 62 → natAbs y < 2 ^ 62 → (wordOf 64 x + wordOf 64 y) % 2 ^ 64 ≡ wordOf 64 (x +ℤ y)
 word-add x y hx hy = go (x +ℤ y) (add-parts x y) (size-add x y)

@@ -10,6 +10,16 @@ pub fn mul(a: u32, b: u32) -> u32
     ((a as u64) * (b as u64) % 4294967296) as u32
 }
 
+// A number times an address word, modulo 2^64: by the halves of the word, each of whose products fits 64 bits.
+pub fn scale(n: u32, x: u64) -> u64
+    ensures { λ r. ⌜ r ≡ n * x % 2 ^ 64 ⌝ }
+{
+    let times = n as u64;
+    let low = times * (x % 4294967296);
+    let high = times * (x / 4294967296) % 4294967296;
+    std::num::wrapping_add_u64(low, high * 4294967296)
+}
+
 // A signed 32-bit stride as a 64-bit address word, two's complement.
 pub fn address_word(s: i32) -> u64
     ensures { λ r. ⌜ r ≡ wordOf 64 s ⌝ }

@@ -1,0 +1,4 @@
+pub mod Answered
+pub mod Demands
+pub mod Filled
+pub mod Runs

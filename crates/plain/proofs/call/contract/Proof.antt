@@ -1,0 +1,102 @@
+-- `contract` meets its contract: where a question refuses, nothing was written; where all pass, the plan's groups are the contraction's, folded, and
+-- filling D along them leaves the result.
+-- Assumes nothing.
+use mathlib.Core.Path.{_≡_, sym, ap, _∙_, subst}
+use mathlib.Core.List.{List}
+use Prim.Native.Nat.{ℕ, _≤_}
+use native.Mathlib.Omega.{arith}
+use lib.ListN.{length}
+use borrow.Author.Needs.{needs}
+use denote.Ref.{now}
+use Rattle.words.specs.Loops.{each}
+use Rattle.layout.specs.Limits.{axesLimit}
+use Rattle.contraction.specs.declared.contraction.Contraction.{Contraction}
+use Rattle.contraction.specs.declared.plan.Plan.{Plan}
+use Rattle.contraction.specs.Operands.{three, tensors, lengths}
+use Rattle.contraction.specs.Groups.{depth, labelsIn, size}
+use Rattle.contraction.specs.Questions.{refusal, layoutQuestions}
+use Rattle.contraction.specs.Meaning.{result}
+use Rattle.contraction.specs.Offsets.{wordsIn}
+use Rattle.contraction.specs.Plan.{Planned}
+use Rattle.contraction.specs.Ready.{Foldable}
+use Rattle.contraction.proofs.Ready.{AllPassed, accepted-parts}
+use Rattle.contraction.proofs.Foldable.{group-foldable, outputs-foldable, fold-foldable}
+use Rattle.plain.specs.declared.walk.Walk.{Walk}
+use Rattle.plain.specs.Call.{done, gave}
+use Rattle.plain.specs.Walk.{places, over, filled, Walks, Clear}
+use Rattle.plain.proofs.Answered.{lengthsOf, slice-lengths, asked, call-refused, call-done}
+use Rattle.plain.proofs.Filled.{clear, filled-result}
+use Rattle.plain.proofs.call.contract.Statement.{statement}
+use Rattle.plain.proofs.call.contract.Tie as tie
+
+module _ (c : Contraction) (a b d : List ℕ) (e : refusal (layoutQuestions (tensors c) (lengths (lengthsOf a b d))) ≡ 0) (p : Plan) (q : Planned (tensors c) p) where
+  passed : AllPassed (tensors c) (λ o. length (three a b d o))
+  passed = subst (AllPassed (tensors c)) (slice-lengths a b d) (accepted-parts (tensors c) (lengths (lengthsOf a b d)) e)
+
+  -- what `walk_of` asks of the plan's groups
+  output-walks : (p .output .count ≤ axesLimit) × Foldable (labelsIn (p .output))
+  output-walks = (q .few-output, rw (q .output) (fold-foldable _ (outputs-foldable (tensors c) _ passed)))
+
+  depth-walks : (p .groups .depth .count ≤ axesLimit) × Foldable (labelsIn (p .groups .depth))
+  depth-walks = (q .few depth, rw (q .groups depth) (fold-foldable _ (group-foldable (tensors c) _ passed depth)))
+
+  -- what `fill` asks, and what it leaves
+  module _ (outer inner : Walk) (ko : Walks (labelsIn (p .output)) outer) (ki : Walks (labelsIn (p .groups .depth)) inner) where
+    fill-asks : Walks (over outer) outer × Walks (over inner) inner
+        × Clear (size (over outer)) (places (p .base) (over outer)) (over inner) a b (length d)
+    fill-asks = (rw (ko .labels) ko, rw (ki .labels) ki, rw (ko .labels, q .output, ki .labels, q .groups depth) (clear c (three a b d) passed (wordsIn (p .base)) (q .bases)))
+
+    fill-leaves : each (size (over outer)) (λ m. filled (c .alpha) (c .beta) (over inner) a b (places (p .base) (over outer) m)) d ≡ result c (three a b d)
+    fill-leaves = rw (ko .labels, q .output, ki .labels, q .groups depth) (filled-result c (three a b d) passed (wordsIn (p .base)) (q .bases))
+
+-- the answer is 0, and so are the questions
+zero-found : {k m : ℕ} → k ≡ m → k ≡ 0 → m ≡ 0
+zero-found e z = sym e ∙ z
+
+first-no-requires : tie.Need-first-no-requires
+first-no-requires c κs = search needs
+
+returns : tie.Need-returns
+returns c =
+    let s = c .before .before .before .before .before in
+    call-refused (s .args .c) (three (now (s .args .a)) (now (s .args .b)) (now (s .args .d))) (asked (s .args .c) (now (s .args .a)) (now (s .args .b)) (now (s .args .d)) (c .before .first-no .ensures)) (omega arith)
+
+plan-of-requires : tie.Need-plan-of-requires
+plan-of-requires c κs = search needs
+
+walk-of-requires : tie.Need-walk-of-requires
+walk-of-requires c κs =
+    let r = c .before .before .before .before .before in
+    let s = r .before .before .before .before .before .before in
+    output-walks (s .args .c) (now (s .args .a)) (now (s .args .b)) (now (s .args .d)) (zero-found (r .before .before .first-no .ensures) (omega arith)) (r .plan-of .result) (r .plan-of .ensures)
+
+walk-of-requires-2 : tie.Need-walk-of-requires-2
+walk-of-requires-2 c κs =
+    let r = c .before .before .before .before .before .before in
+    let s = r .before .before .before .before .before .before in
+    depth-walks (s .args .c) (now (s .args .a)) (now (s .args .b)) (now (s .args .d)) (zero-found (r .before .before .first-no .ensures) (omega arith)) (r .plan-of .result) (r .plan-of .ensures)
+
+fill-requires : tie.Need-fill-requires
+fill-requires c κs =
+    let r = c .before .before .before .before .before .before .before in
+    let s = r .before .before .before .before .before .before in
+    fill-asks (s .args .c) (now (s .args .a)) (now (s .args .b)) (now (s .args .d)) (zero-found (r .before .before .first-no .ensures) (omega arith)) (r .plan-of .result) (r .plan-of .ensures)
+    (c .before .walk-of .result) (c .walk-of2 .result) (c .before .walk-of .ensures) (c .walk-of2 .ensures)
+
+same-length : tie.Need-same-length
+same-length c = search needs
+
+returns-2 : tie.Need-returns-2
+returns-2 c =
+    let r = c .before .before .before .before .before .before .before .before .before .before in
+    let s = r .before .before .before .before .before .before in
+    let n = r .before .before .first-no .ensures in
+    ap (gave done)
+    (c .before .before .fill .ensures
+    ∙ fill-leaves (s .args .c) (now (s .args .a)) (now (s .args .b)) (now (s .args .d)) (zero-found n (omega arith)) (r .plan-of .result) (r .plan-of .ensures)
+    (c .before .before .before .before .walk-of .result) (c .before .before .before .walk-of2 .result) (c .before .before .before .before .walk-of .ensures)
+    (c .before .before .before .walk-of2 .ensures))
+    ∙ call-done (s .args .c) (three (now (s .args .a)) (now (s .args .b)) (now (s .args .d))) (asked (s .args .c) (now (s .args .a)) (now (s .args .b)) (now (s .args .d)) n) (omega arith)
+
+pub contract-spec : {M : Type 1} → statement M
+contract-spec = tie.close (tie.spec first-no-requires returns plan-of-requires walk-of-requires walk-of-requires-2 fill-requires same-length returns-2)

@@ -1,0 +1,82 @@
+-- What the loops of the plain engine leave, by address words. Inside contracts only.
+-- Assumes nothing.
+use Prim.Native.Nat.{ℕ, _+_, _*_, _<_, _≤_}
+use mathlib.Core.Path.{_≡_}
+use mathlib.Core.List.{List, [], _∷_}
+use lib.IntN.{pos}
+use lib.ListN.{length, getD}
+use Rattle.words.specs.Sums.{sumTo}
+use Rattle.words.specs.Words.{word, wordOf}
+use Rattle.words.specs.Loops.{put}
+use Rattle.layout.specs.Limits.{axesLimit}
+use Rattle.contraction.specs.Operands.{Operand, A, B, D}
+use Rattle.contraction.specs.Groups.{Label, size, offsetIn, labelsIn}
+use Rattle.contraction.specs.declared.offsets.Offsets.{Offsets}
+use Rattle.contraction.specs.Offsets.{wordsIn}
+use Rattle.contraction.specs.Ready.{Foldable}
+use Rattle.plain.specs.declared.walk.Walk.{Walk}
+
+-- the address word v steps from x
+abbrev pub stepped : ℕ → ℕ → ℕ → ℕ
+stepped x s v = word 64 (x + v * s)
+
+-- the address word in a tensor at a count of a group, from x
+abbrev pub reached : Operand → ℕ → List Label → ℕ → ℕ
+reached o x g n = word 64 (x + offsetIn (wordOf 64) o g n)
+
+-- and so for each tensor: v steps from where each stands, and at a count of a group
+abbrev pub steps : Offsets → Offsets → ℕ → Operand → ℕ
+steps from step v o = stepped (wordsIn from o) (wordsIn step o) v
+
+abbrev pub places : Offsets → List Label → ℕ → Operand → ℕ
+places base g n o = reached o (wordsIn base o) g n
+
+-- Σ over the counts below n of a's word × b's word
+unfoldable pub dot : ℕ → (ℕ → ℕ) → List ℕ → (ℕ → ℕ) → List ℕ → ℕ
+dot n i a j b = sumTo n (λ k. getD a (i k) 0 * getD b (j k) 0)
+
+-- the sum over the counts of the depth group g, from an address word of each tensor
+unfoldable pub sumFrom : List Label → List ℕ → List ℕ → (Operand → ℕ) → ℕ
+sumFrom g a b at = dot (size g) (reached A (at A) g) a (reached B (at B) g) b
+
+-- alpha × the sum + beta × the old word
+abbrev pub scored : ℕ → ℕ → ℕ → ℕ → ℕ
+scored alpha beta sum old = word 32 (alpha * sum + beta * old)
+
+-- D's words with the one at an output's address word filled
+unfoldable pub filled : ℕ → ℕ → List Label → List ℕ → List ℕ → (Operand → ℕ) → List ℕ → List ℕ
+filled alpha beta g a b at = put (scored alpha beta (sumFrom g a b at)) (at D)
+
+-- ---- what the loops may assume
+
+-- each place of the counts below n is one of a list of that length
+pub record Within (n : ℕ) (place : ℕ → ℕ) (len : ℕ) : Type 0 where
+  pub each : (v : ℕ) → v < n → place v < len
+
+-- from an address word of each tensor, all that the sum over the depth group g reads is inside
+pub record Readable (g : List Label) (a b : List ℕ) (at : Operand → ℕ) : Type 0 where
+  pub inA : Within (size g) (reached A (at A) g) (length a)
+  pub inB : Within (size g) (reached B (at B) g) (length b)
+
+-- and so from those of each count below n, with the place that is written in a list of that length
+pub record Clear (n : ℕ) (at : ℕ → Operand → ℕ) (g : List Label) (a b : List ℕ) (len : ℕ) : Type 0 where
+  pub reads : (v : ℕ) → v < n → Readable g a b (at v)
+  pub writes : Within n (λ v. at v D) len
+
+-- the first label of a group, or one of extent 1 where there is none
+abbrev pub lead : List Label → Label
+lead [] = record { letter = 0; extent = 1; stride = λ o. pos 0 }
+lead (l ∷ g) = l
+
+-- the labels that a walk goes over
+abbrev pub over : Walk → List Label
+over w = labelsIn (w .group)
+
+-- the code's walk goes over the group in runs of its first label
+pub record Walks (g : List Label) (w : Walk) : Type 0 where
+  pub labels : over w ≡ g
+  pub few : w .group .count ≤ axesLimit
+  pub foldable : Foldable g
+  pub len : w .len ≡ lead g .extent
+  pub step : (o : Operand) → wordsIn (w .step) o ≡ wordOf 64 (lead g .stride o)
+  pub counts : size g ≡ w .len * w .runs

@@ -1,0 +1,115 @@
+/* Nezgrak: a tensor contraction engine for 32-bit words, for C11 and C++11. Link libnezgrak.a (x86-64).
+ *
+ * A tensor is a slice of words that the caller lends, with a layout: up to 8 letters (its labels), an extent and a signed stride
+ * for each, and a base. The entry at index (i, j, ..) is the word at base + i * stride + j * stride' + .. of the slice. A letter
+ * that a tensor repeats is one label whose stride is the sum of its strides. No letters means one entry, at the base.
+ */
+#ifndef NEZGRAK_H
+#define NEZGRAK_H
+
+#include <stddef.h>
+#include <stdint.h>
+
+#ifdef __cplusplus
+extern "C" {
+#endif
+
+/* Contracts A and B into D. Each word that D's layout addresses becomes
+ *
+ *     alpha * (sum, over every label that D lacks, of A's entry * B's entry) + beta * old word    modulo 2^32.
+ *
+ * A tensor that lacks a label has the same entry at each of its values. The words of D that its layout does not address keep
+ * their values. A, B and the layouts are only read.
+ *
+ * Returns 0, or the number of the first question whose answer is no. D is then unchanged. Each question is put to A, B and D
+ * before the next one is asked:
+ *
+ *     1  Has each tensor at most 8 letters?
+ *     2  Are there as many extents and as many strides as letters?
+ *     3  Is every letter A to Z or a to z?
+ *     4  Is every extent 1 to 65,536?
+ *     5  Is every stride from -16,777,216 to 16,777,216, every base at most 16,777,216, every slice at most 16,777,216 words?
+ *     6  Has a letter the same extent wherever it occurs?
+ *     7  Is the product of the extents of all different labels at most 1,073,741,824?
+ *     8  Does every entry of A, B and D fall inside its slice?
+ *     9  For each label of D with an extent above 1: does its stride's size exceed the sum of (extent - 1) * stride size over
+ *        the other labels of D whose stride size is no greater? (Strides summed for each letter.)
+ *
+ * The caller has to see to this, and to nothing else:
+ *
+ *   - Each pointer is followed by a count, and points to that many elements that can be read, for d also written. It is
+ *     aligned for its type and not null, also where the count is 0.
+ *   - d shares no word with a, b or an array of a layout. Those may share words with each other.
+ *   - During the call no other thread writes to any of them, or reads d.
+ */
+uint32_t nezgrak_contract(
+    const uint8_t *a_letters, size_t a_letter_count,
+    const uint32_t *a_extents, size_t a_extent_count,
+    const int32_t *a_strides, size_t a_stride_count,
+    uint32_t a_base,
+    const uint32_t *a, size_t a_count,
+    const uint8_t *b_letters, size_t b_letter_count,
+    const uint32_t *b_extents, size_t b_extent_count,
+    const int32_t *b_strides, size_t b_stride_count,
+    uint32_t b_base,
+    const uint32_t *b, size_t b_count,
+    const uint8_t *d_letters, size_t d_letter_count,
+    const uint32_t *d_extents, size_t d_extent_count,
+    const int32_t *d_strides, size_t d_stride_count,
+    uint32_t d_base,
+    uint32_t *d, size_t d_count,
+    uint32_t alpha, uint32_t beta);
+
+#ifdef __cplusplus
+}
+#endif
+
+/* A layout as one value. The counts are equal where the layout is sound (question 2). */
+typedef struct nezgrak_layout {
+    const uint8_t *letters;
+    size_t letter_count;
+    const uint32_t *extents;
+    size_t extent_count;
+    const int32_t *strides;
+    size_t stride_count;
+    uint32_t base;
+} nezgrak_layout;
+
+/* The layout of `rank` letters, extents and strides. The arrays stay the caller's. */
+static inline nezgrak_layout nezgrak_layout_of(
+    const char *letters, const uint32_t *extents, const int32_t *strides, size_t rank, uint32_t base)
+{
+    nezgrak_layout layout;
+    layout.letters = (const uint8_t *)letters;
+    layout.letter_count = rank;
+    layout.extents = extents;
+    layout.extent_count = rank;
+    layout.strides = strides;
+    layout.stride_count = rank;
+    layout.base = base;
+    return layout;
+}
+
+/* The layout without letters: one entry, at the base. */
+static inline nezgrak_layout nezgrak_layout_scalar(uint32_t base)
+{
+    static const uint32_t no_extents[1] = {0};
+    static const int32_t no_strides[1] = {0};
+    return nezgrak_layout_of("", no_extents, no_strides, 0, base);
+}
+
+/* nezgrak_contract with each layout as one value. What it returns and what the caller has to see to are the same. */
+static inline uint32_t nezgrak_contract_layouts(
+    const nezgrak_layout *a, const uint32_t *a_words, size_t a_count,
+    const nezgrak_layout *b, const uint32_t *b_words, size_t b_count,
+    const nezgrak_layout *d, uint32_t *d_words, size_t d_count,
+    uint32_t alpha, uint32_t beta)
+{
+    return nezgrak_contract(
+        a->letters, a->letter_count, a->extents, a->extent_count, a->strides, a->stride_count, a->base, a_words, a_count,
+        b->letters, b->letter_count, b->extents, b->extent_count, b->strides, b->stride_count, b->base, b_words, b_count,
+        d->letters, d->letter_count, d->extents, d->extent_count, d->strides, d->stride_count, d->base, d_words, d_count,
+        alpha, beta);
+}
+
+#endif

@@ -1,0 +1,77 @@
+use core::error::Error;
+use core::fmt;
+
+/// The question that a call failed. Questions are asked in the order of their numbers, each of A, B and D before the
+/// next, so the number is that of the first *no*. A refused call changes no word.
+///
+/// ```
+/// use nezgrak::{contract, Layout};
+///
+/// let one = Layout::scalar(0);
+/// let refused = contract(&one, &[2], &one, &[3], &Layout::scalar(1), &mut [0], 1, 0).unwrap_err();
+/// assert_eq!(refused.number(), 8);
+/// ```
+#[derive(Clone, Copy, Debug, PartialEq, Eq, Hash)]
+pub struct Refusal {
+    number: u32,
+}
+
+impl Refusal {
+    /// The question's number, 1 to 9.
+    #[must_use]
+    pub const fn number(self) -> u32 {
+        self.number
+    }
+
+    /// Reads the number that a call answered: 0 is done.
+    pub(crate) const fn done_or(number: u32) -> Result<(), Self> {
+        match number {
+            0 => Ok(()),
+            _ => Err(Self { number }),
+        }
+    }
+
+    /// What was found.
+    const fn finding(self) -> &'static str {
+        match self.number {
+            1 => "a tensor has more than 8 letters",
+            2 => "a tensor has not as many extents and strides as letters",
+            3 => "a letter is none of A to Z and a to z",
+            4 => "an extent is not from 1 to 65,536",
+            5 => "a stride's size, a base or a slice's length is over 16,777,216",
+            6 => "a letter has two extents",
+            7 => "the extents of all labels multiply to more than 1,073,741,824",
+            8 => "an entry falls outside its tensor's slice",
+            9 => "the strides of D do not keep its entries apart",
+            _ => "a question of another number",
+        }
+    }
+}
+
+impl fmt::Display for Refusal {
+    fn fmt(&self, f: &mut fmt::Formatter<'_>) -> fmt::Result {
+        write!(f, "refused {}: {}", self.number, self.finding())
+    }
+}
+
+impl Error for Refusal {}
+
+#[cfg(test)]
+mod tests {
+    extern crate std;
+    use super::Refusal;
+    use std::collections::HashSet;
+    use std::string::ToString;
+
+    #[test]
+    fn nothing_is_refused_by_0() {
+        assert_eq!(Refusal::done_or(0), Ok(()));
+    }
+
+    #[test]
+    fn each_number_has_a_text_of_its_own() {
+        let texts: HashSet<_> = (1..=10).map(|n| Refusal::done_or(n).unwrap_err().finding()).collect();
+        assert_eq!(texts.len(), 10);
+        assert_eq!(Refusal::done_or(6).unwrap_err().to_string(), "refused 6: a letter has two extents");
+    }
+}

@@ -1,0 +1,89 @@
+//! A sound contraction, and ways to make one question of it fail.
+
+use super::case::{Case, Tensor};
+
+/// A(i,k) × B(k,j) into D(i,j), with no word to spare in any slice, so that each slip of an address is outside.
+pub fn sound() -> Case {
+    Case {
+        a: Tensor::new("ik", &[2, 3], &[1, 2], 0, &[3, 1, 4, 1, 5, 9]),
+        b: Tensor::new("kj", &[3, 2], &[-1, 3], 2, &[2, 6, 5, 3, 5, 8]),
+        d: Tensor::new("ij", &[2, 2], &[-1, 2], 1, &[9, 7, 9, 3]),
+        alpha: 3,
+        beta: 2,
+    }
+}
+
+/// The tensors of which a question can be broken: A 0, B 1, D 2.
+pub fn tensors_of(number: u32) -> std::ops::Range<usize> {
+    if number == 9 {
+        2..3
+    } else {
+        0..3
+    }
+}
+
+type Edit = fn(&mut Tensor);
+
+/// Edits that each make the question of that number fail for the tensor, and no earlier one.
+pub fn edits(number: u32) -> &'static [Edit] {
+    match number {
+        1 => &[|t| fill_to(t, 9), |t| fill_to(t, 30)],
+        2 => &[
+            |t| t.extents.push(1),
+            |t| t.strides.push(1),
+            |t| t.extents.truncate(1),
+            |t| t.strides.truncate(1),
+            |t| t.letters.truncate(1),
+        ],
+        3 => &[|t| t.push(b'@', 1, 0), |t| t.push(0, 1, 0), |t| t.push(b'a' + 128, 1, 0)],
+        4 => &[|t| t.push(b'q', 0, 0), |t| t.push(b'q', 65_537, 0), |t| t.push(b'q', u32::MAX, 0)],
+        5 => &[
+            |t| t.push(b'r', 1, 16_777_217),
+            |t| t.push(b'r', 1, -16_777_217),
+            |t| t.push(b'r', 1, i32::MIN),
+            |t| t.base = 16_777_217,
+            |t| t.base = u32::MAX,
+        ],
+        6 => &[|t| t.push(t.letters[0], 4, 0), |t| t.extents[0] += 1, two_extents],
+        7 => &[
+            |t| large(t, &[32_768, 32_769]),
+            |t| large(t, &[65_536, 65_536]),
+            |t| large(t, &[65_536, 65_536, 65_536, 65_536]),
+        ],
+        8 => &[
+            |t| t.words.truncate(t.words.len() - 1),
+            |t| t.base += 1,
+            |t| t.strides[0] = -t.strides[0],
+            |t| t.words.clear(),
+        ],
+        9 => &[|t| overlap(t, [-1, 1], 1, 3), |t| overlap(t, [-1, 0], 1, 2), |t| overlap(t, [-2, 2], 2, 5)],
+        _ => unreachable!("no question of the plain call"),
+    }
+}
+
+/// Letters of extent 1 until there are that many.
+fn fill_to(t: &mut Tensor, count: usize) {
+    while t.letters.len() < count {
+        t.push(b'l' + t.letters.len() as u8 % 8, 1, 0);
+    }
+}
+
+/// A letter that no other tensor has, with two extents.
+fn two_extents(t: &mut Tensor) {
+    t.push(b's', 1, 0);
+    t.push(b's', 2, 0);
+}
+
+/// New labels of these extents that stay on one word.
+fn large(t: &mut Tensor, extents: &[u32]) {
+    for (letter, extent) in (b'u'..).zip(extents) {
+        t.push(letter, *extent, 0);
+    }
+}
+
+/// Strides that let two entries of D share a word, over a slice that again has no word to spare.
+fn overlap(t: &mut Tensor, strides: [i32; 2], base: u32, length: usize) {
+    t.strides[..2].copy_from_slice(&strides);
+    t.base = base;
+    t.words.resize(length, 6);
+}

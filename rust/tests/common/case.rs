@@ -1,0 +1,72 @@
+//! A contraction as it is handed in: three tensors and two factors.
+
+use std::fmt;
+
+/// A tensor: its layout and its words. Nothing is checked, so that a test can hold what is to be refused.
+#[derive(Clone, PartialEq)]
+pub struct Tensor {
+    pub letters: Vec<u8>,
+    pub extents: Vec<u32>,
+    pub strides: Vec<i32>,
+    pub base: u32,
+    pub words: Vec<u32>,
+}
+
+impl Tensor {
+    pub fn new(letters: &str, extents: &[u32], strides: &[i32], base: u32, words: &[u32]) -> Self {
+        let (letters, extents) = (letters.as_bytes().to_vec(), extents.to_vec());
+        Self { letters, extents, strides: strides.to_vec(), base, words: words.to_vec() }
+    }
+
+    /// One word without letters.
+    pub fn scalar(word: u32) -> Self {
+        Self::new("", &[], &[], 0, &[word])
+    }
+
+    /// One axis more, after the others.
+    pub fn push(&mut self, letter: u8, extent: u32, stride: i32) {
+        self.letters.push(letter);
+        self.extents.push(extent);
+        self.strides.push(stride);
+    }
+}
+
+/// The layout, and the words as far as a reader of a failed test wants them.
+impl fmt::Debug for Tensor {
+    fn fmt(&self, f: &mut fmt::Formatter<'_>) -> fmt::Result {
+        let shown = &self.words[..self.words.len().min(64)];
+        write!(f, "{:?} {:?} {:?}", self.letters.escape_ascii().to_string(), self.extents, self.strides)?;
+        write!(f, " base {}, {} words {:?}", self.base, self.words.len(), shown)
+    }
+}
+
+#[derive(Clone, Debug, PartialEq)]
+pub struct Case {
+    pub a: Tensor,
+    pub b: Tensor,
+    pub d: Tensor,
+    pub alpha: u32,
+    pub beta: u32,
+}
+
+impl Case {
+    pub fn tensors(&self) -> [&Tensor; 3] {
+        [&self.a, &self.b, &self.d]
+    }
+
+    /// A is 0, B is 1, D is 2.
+    pub fn tensor_mut(&mut self, which: usize) -> &mut Tensor {
+        match which {
+            0 => &mut self.a,
+            1 => &mut self.b,
+            _ => &mut self.d,
+        }
+    }
+}
+
+/// What a call answers, and D's words after it.
+#[derive(Clone, Debug, PartialEq)]
+pub struct Outcome {
+    pub answer: u32,
+    pub words: Vec<u32>,
+}

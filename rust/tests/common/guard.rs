@@ -1,0 +1,55 @@
+//! A lent slice with words of a known pattern before and after it.
+
+const MARGIN: usize = 24;
+
+pub trait Pattern: Copy + PartialEq {
+    fn pattern(place: usize) -> Self;
+}
+
+impl Pattern for u8 {
+    fn pattern(place: usize) -> Self {
+        (place * 37 + 165) as u8
+    }
+}
+
+impl Pattern for u32 {
+    fn pattern(place: usize) -> Self {
+        0xa5c3_0f69 ^ (place as u32).wrapping_mul(0x0101_4325)
+    }
+}
+
+impl Pattern for i32 {
+    fn pattern(place: usize) -> Self {
+        u32::pattern(place) as i32
+    }
+}
+
+pub struct Guarded<T> {
+    buffer: Vec<T>,
+}
+
+impl<T: Pattern> Guarded<T> {
+    pub fn around(part: &[T]) -> Self {
+        let mut buffer = Vec::with_capacity(part.len() + 2 * MARGIN);
+        buffer.extend((0..MARGIN).map(T::pattern));
+        buffer.extend_from_slice(part);
+        buffer.extend((MARGIN..2 * MARGIN).map(T::pattern));
+        Self { buffer }
+    }
+
+    pub fn part(&self) -> &[T] {
+        &self.buffer[MARGIN..self.buffer.len() - MARGIN]
+    }
+
+    pub fn part_mut(&mut self) -> &mut [T] {
+        let end = self.buffer.len() - MARGIN;
+        &mut self.buffer[MARGIN..end]
+    }
+
+    /// Are the words before and after as they were?
+    pub fn intact(&self) -> bool {
+        let (before, rest) = self.buffer.split_at(MARGIN);
+        let after = &rest[rest.len() - MARGIN..];
+        before.iter().chain(after).enumerate().all(|(place, word)| *word == T::pattern(place))
+    }
+}

@@ -1,0 +1,84 @@
+//! The model's questions 1 to 9.
+
+use super::case::{Case, Tensor};
+use super::direct::{address, Values};
+use std::collections::BTreeMap;
+
+const LIMIT: i128 = 16_777_216;
+
+/// The number of the first question that fails, or 0.
+pub fn first_no(case: &Case) -> u32 {
+    let every = |asked: fn(&Tensor) -> bool| case.tensors().into_iter().all(asked);
+    if !every(|t| t.letters.len() <= 8) {
+        1
+    } else if !every(|t| t.letters.len() == t.extents.len() && t.letters.len() == t.strides.len()) {
+        2
+    } else if !every(|t| t.letters.iter().all(u8::is_ascii_alphabetic)) {
+        3
+    } else if !every(|t| t.extents.iter().all(|extent| (1..=65_536).contains(extent))) {
+        4
+    } else if !every(within_limits) {
+        5
+    } else if !extents_agree(case) {
+        6
+    } else if !points_fit(case) {
+        7
+    } else if !every(entries_inside) {
+        8
+    } else if !apart(&case.d) {
+        9
+    } else {
+        0
+    }
+}
+
+fn within_limits(t: &Tensor) -> bool {
+    let strides = t.strides.iter().all(|&stride| (-LIMIT..=LIMIT).contains(&i128::from(stride)));
+    strides && i128::from(t.base) <= LIMIT && t.words.len() as i128 <= LIMIT
+}
+
+fn extents_agree(case: &Case) -> bool {
+    let extents = labels(&case.tensors());
+    case.tensors().iter().all(|t| t.letters.iter().zip(&t.extents).all(|(letter, extent)| extents[letter] == *extent))
+}
+
+/// The product of 24 extents can have 384 bits; one that leaves 128 bits is too large as well.
+fn points_fit(case: &Case) -> bool {
+    let mut extents = labels(&case.tensors()).into_values().map(i128::from);
+    extents.try_fold(1, i128::checked_mul).is_some_and(|product| product <= 1_073_741_824)
+}
+
+/// Every different label of these tensors, with an extent that it has in one of them.
+pub fn labels(tensors: &[&Tensor]) -> BTreeMap<u8, u32> {
+    tensors.iter().flat_map(|t| t.letters.iter().copied().zip(t.extents.iter().copied())).collect()
+}
+
+/// An address is linear in each index, so all entries are inside where those at the corners are.
+fn entries_inside(t: &Tensor) -> bool {
+    let labels = labels(&[t]);
+    (0..1_usize << labels.len()).all(|corner| {
+        let mut values: Values = [0; 128];
+        for (bit, (&letter, &extent)) in labels.iter().enumerate() {
+            values[usize::from(letter)] = if corner >> bit & 1 == 1 { i64::from(extent) - 1 } else { 0 };
+        }
+        (0..t.words.len() as i64).contains(&address(t, &values))
+    })
+}
+
+/// Each label's stride size and its extent, the strides of a repeated letter summed.
+fn stride_sizes(t: &Tensor) -> BTreeMap<u8, (i128, i128)> {
+    let mut sums: BTreeMap<u8, i128> = BTreeMap::new();
+    for (letter, stride) in t.letters.iter().zip(&t.strides) {
+        *sums.entry(*letter).or_default() += i128::from(*stride);
+    }
+    let extents = labels(&[t]);
+    sums.into_iter().map(|(letter, stride)| (letter, (stride.abs(), i128::from(extents[&letter])))).collect()
+}
+
+fn apart(d: &Tensor) -> bool {
+    let sizes = stride_sizes(d);
+    sizes.iter().filter(|(_, (_, extent))| *extent > 1).all(|(letter, (size, _))| {
+        let others = sizes.iter().filter(|(other, (its, _))| *other != letter && its <= size);
+        *size > others.map(|(_, (its, extent))| (extent - 1) * its).sum::<i128>()
+    })
+}
