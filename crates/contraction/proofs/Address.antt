@@ -1,28 +1,25 @@
--- The address at the index of four counts is the base and the four offsets.
+-- The index at a count of labels: the values of other letters stay, and the offset of the count is what an address gains.
 -- Assumes nothing.
 use mathlib.Core.Path.{_≡_, refl, ap, sym, _∙_}
 use mathlib.Core.Bool.{Bool, true, false, cond, true≢false}
 use mathlib.Core.List.{List, [], _∷_, map}
 use mathlib.Core.Logic.{_≢_}
 use Prim.Native.Nat.{ℕ, _+_, _*_, _-_, _/_, _%_}
-use native.Mathlib.Nat.{zero-add}
 use native.Mathlib.Omega.{arith}
 use lib.IntN.{ℤ}
 use lib.Dec.{T, eqb, eqb→eq}
 use Rattle.words.specs.Sums.{All}
 use Rattle.words.specs.Lists.{keep}
 use Rattle.words.specs.Words.{up, down}
-use Rattle.words.proofs.Lists.{all-map, all-imp, keep-passes, Unique, keep-unique, eqb-true, eqb-ne}
+use Rattle.words.proofs.Lists.{all-map, all-imp, keep-passes, Unique, keep-unique, eqb-ne}
 use Rattle.layout.specs.declared.layout.Axis.{Axis}
-use Rattle.layout.specs.declared.layout.Layout.{Layout}
-use Rattle.layout.specs.Layout.{along, address}
+use Rattle.layout.specs.Layout.{along}
 use Rattle.layout.specs.Labels.{labels}
 use Rattle.layout.proofs.Stride.{partOf, strideOf-parts}
 use Rattle.layout.proofs.ByLabel.{labels-unique}
-use Rattle.layout.proofs.Address.{along-zero}
-use Rattle.contraction.specs.Operands.{Operand, Shape, shape, together}
-use Rattle.contraction.specs.Groups.{Label, label, Group, batch, row, column, depth, groupOf, number, inGroup, labelsWhere, group, offset, offsetIn}
-use Rattle.contraction.specs.Index.{assign, at, index, overGroups}
+use Rattle.contraction.specs.Operands.{Operand, Shape, together}
+use Rattle.contraction.specs.Groups.{Label, label, Group, groupOf, number, inGroup, labelsWhere, group, offset, offsetIn}
+use Rattle.contraction.specs.Index.{assign, at}
 
 -- the letter is none of the group's
 abbrev pub Fresh : ℕ → List Label → Type 0
@@ -79,11 +76,6 @@ module _ (s : Shape) where
   unfolding group
   group-distinct g = where-distinct (inGroup s g)
 
-  -- each letter of a group is of that group
-  pub group-own : (g : Group) → All (λ l. number (groupOf s (l .letter)) ≡ number g) (group s g)
-  unfolding group inGroup
-  group-own g = all-imp (λ l. eqb-true (number (groupOf s (l .letter))) (number g)) (group s g) (where-own (inGroup s g))
-
   -- a count of one group leaves the letters of the others as they are
   pub clear : (g : Group) (n : ℕ) (ρ : ℕ → ℕ) (c : ℕ) → number (groupOf s c) ≢ number g → at (group s g) n ρ c ≡ ρ c
   unfolding group inGroup
@@ -99,20 +91,6 @@ module _ (s : Shape) where
     unfolding share
     along-where p n ρ z = along-at part (s o) (labelsWhere s p) n ρ (where-distinct p) (all-imp (λ l. z (l .letter)) (labelsWhere s p) (where-own p))
 
-    pub along-group : (g : Group) (n : ℕ) (ρ : ℕ → ℕ) → ((c : ℕ) → number (groupOf s c) ≡ number g → ρ c ≡ 0)
-        → along part (s o) (at (group s g) n ρ) ≡ along part (s o) ρ + offset share (group s g) n
-    unfolding group inGroup
-    along-group g n ρ z = along-where (inGroup s g) n ρ (λ c e. z c (eqb-true (number (groupOf s c)) (number g) e))
-
-    along-index : (n : Group → ℕ) → along part (s o) (index s n) ≡ overGroups (λ g. offset share (group s g) (n g))
-    unfolding index
-    along-index n =
-        along-group depth (n depth) _ (λ c e. clear batch (n batch) _ c (omega arith) ∙ clear row (n row) _ c (omega arith) ∙ clear column (n column) _ c (omega arith))
-        ∙ ap (λ (x : ℕ). x + offset share (group s depth) (n depth)) (along-group batch (n batch) _ (λ c e. clear row (n row) _ c (omega arith) ∙ clear column (n column) _ c (omega arith))
-        ∙ ap (λ (x : ℕ). x + offset share (group s batch) (n batch)) (along-group row (n row) _ (λ c e. clear column (n column) _ c (omega arith))
-        ∙ ap (λ (x : ℕ). x + offset share (group s row) (n row)) (along-group column (n column) _ (λ c e. refl)
-        ∙ rw (along-zero part (s o)) (zero-add _))))
-
   balanced : (o : Operand) (cs : List ℕ) (n : ℕ)
       → offsetIn up o (map (label s) cs) n + offset (share down o) (map (label s) cs) n ≡ offsetIn down o (map (label s) cs) n + offset (share up o) (map (label s) cs) n
   unfolding share
@@ -124,24 +102,3 @@ module _ (s : Shape) where
   pub where-balanced : (o : Operand) (p : ℕ → Bool) (n : ℕ)
       → offsetIn up o (labelsWhere s p) n + offset (share down o) (labelsWhere s p) n ≡ offsetIn down o (labelsWhere s p) n + offset (share up o) (labelsWhere s p) n
   where-balanced o p n = balanced o (keep p (labels (together s))) n
-
-  pub group-balanced : (o : Operand) (g : Group) (n : ℕ)
-      → offsetIn up o (group s g) n + offset (share down o) (group s g) n ≡ offsetIn down o (group s g) n + offset (share up o) (group s g) n
-  unfolding group
-  group-balanced o g n = where-balanced o (inGroup s g) n
-
--- the address at four counts is the base and the four offsets
-pub address-index : (t : Operand → Layout) (o : Operand) (n : Group → ℕ)
-    → address (t o) (index (shape t) n)
-    ≡ (t o .base + overGroups (λ g. offsetIn up o (group (shape t) g) (n g))) - overGroups (λ g. offsetIn down o (group (shape t) g) (n g))
-unfolding address
-address-index t o n =
-    omega (
-      arith,
-      along-index (shape t) up o n,
-      along-index (shape t) down o n,
-      group-balanced (shape t) o batch (n batch),
-      group-balanced (shape t) o row (n row),
-      group-balanced (shape t) o column (n column),
-      group-balanced (shape t) o depth (n depth),
-    )

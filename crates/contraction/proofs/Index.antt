@@ -1,11 +1,11 @@
 -- The index of a count: in range, and different for different counts.
 -- Assumes nothing.
-use mathlib.Core.Path.{_≡_, refl, ap, sym, _∙_}
+use mathlib.Core.Path.{_≡_, refl, sym, _∙_}
 use mathlib.Core.Bool.{Bool, true, false, cond, _||_, true≢false}
 use mathlib.Core.List.{List, [], _∷_, map}
 use mathlib.Core.Logic.{_≢_}
-use Prim.Native.Nat.{ℕ, _/_, _%_, _<_, zero-le}
-use native.Mathlib.Nat.{mod-lt, div-add-mod, lt-of-le-of-lt}
+use Prim.Native.Nat.{ℕ, _/_, _%_, _<_}
+use native.Mathlib.Nat.{mod-lt, div-add-mod}
 use native.Mathlib.Omega.{arith}
 use lib.Dec.{T, eqb}
 use Rattle.words.specs.Sums.{All}
@@ -16,10 +16,10 @@ use Rattle.layout.specs.Questions.{extentsAgree}
 use Rattle.layout.specs.Bounds.{InRange}
 use Rattle.layout.proofs.ByLabel.{labels-cover}
 use Rattle.contraction.specs.Operands.{Operand, Shape, together}
-use Rattle.contraction.specs.Groups.{Label, label, letters, Group, batch, row, column, depth, groupOf, number, inGroup, labelsWhere, group, size}
-use Rattle.contraction.specs.Index.{at, index}
+use Rattle.contraction.specs.Groups.{Label, label, letters, Group, groupOf, number, inGroup, labelsWhere, group, size}
+use Rattle.contraction.specs.Index.{at}
 use Rattle.contraction.proofs.Digits.{pos-left, pos-right, div-below}
-use Rattle.contraction.proofs.Address.{Distinct, clear}
+use Rattle.contraction.proofs.Address.{Distinct}
 use Rattle.contraction.proofs.Agree.{together-all, agree}
 
 -- different counts have different indices
@@ -66,37 +66,12 @@ module _ (s : Shape) where
       → at (labelsWhere s p) n ρ c < label s c .extent
   where-lt p n ρ c h m e = at-lt (keep p (labels (together s))) n ρ c h (member-keep p c (labels (together s)) e m)
 
-  pub group-lt : (g : Group) (n : ℕ) (ρ : ℕ → ℕ) (c : ℕ) → 0 < size (group s g) → member c (labels (together s)) ≡ true → groupOf s c ≡ g
-      → at (group s g) n ρ c < label s c .extent
-  unfolding group inGroup
-  group-lt g n ρ c h m e = where-lt (inGroup s g) n ρ c h m (rw (e, eqb-self (number g)))
-
   pub group-same : (g : Group) (n : ℕ) (ρ σ : ℕ → ℕ) (c : ℕ) → member c (labels (together s)) ≡ true → groupOf s c ≡ g → at (group s g) n ρ c ≡ at (group s g) n σ c
   unfolding group inGroup
   group-same g n ρ σ c m e =
       at-same (keep (inGroup s g) (labels (together s))) n ρ σ c (member-keep (inGroup s g) c (labels (together s)) (rw (e, eqb-self (number g))) m)
 
-  -- an index of counts gives every label a value below its extent
-  pub index-lt : (n : Group → ℕ) (c : ℕ) → member c (labels (together s)) ≡ true → 0 < size (group s (groupOf s c)) → index s n c < label s c .extent
-  unfolding index
-  index-lt n c m = go (groupOf s c) refl
-    where
-      go : (g : Group) → groupOf s c ≡ g → 0 < size (group s g) → index s n c < label s c .extent
-      go depth e h = group-lt depth (n depth) _ c h m e
-      go batch e h = let k = ap number e in rw (clear s depth (n depth) _ c (omega arith)) (group-lt batch (n batch) _ c h m e)
-      go row e h =
-          let k = ap number e in
-          rw (clear s depth (n depth) _ c (omega arith), clear s batch (n batch) _ c (omega arith)) (group-lt row (n row) _ c h m e)
-      go column e h =
-          let k = ap number e in
-          rw (clear s depth (n depth) _ c (omega arith), clear s batch (n batch) _ c (omega arith), clear s row (n row) _ c (omega arith))
-          (group-lt column (n column) _ c h m e)
-
   module _ (same : T (extentsAgree (together s))) where
     pub in-range : (o : Operand) (ρ : ℕ → ℕ) → ((c : ℕ) → member c (letters s o) ≡ true → ρ c < label s c .extent) → InRange (s o) ρ
     unfolding labels
     in-range o ρ h = all-imp {Q = λ c. ρ c < extentOf c (s o)} (λ c m. rw (agree s same o c m) (h c m)) (labels (s o)) (distinct-members (letters s o))
-
-    -- an index of counts gives every label of every tensor a value below its extent
-    pub index-in-range : (n : Group → ℕ) → ((g : Group) → n g < size (group s g)) → (o : Operand) → InRange (s o) (index s n)
-    index-in-range n h o = in-range o (index s n) (λ c m. index-lt n c (letter-in o c m) (lt-of-le-of-lt zero-le (h (groupOf s c))))

@@ -1,5 +1,6 @@
 pub mod Address
 pub mod Agree
+pub mod Counts
 pub mod Digits
 pub mod FoldKeeps
 pub mod Foldable
@@ -10,6 +11,7 @@ pub mod Nested
 pub mod OffsetWords
 pub mod Onto
 pub mod Outputs
+pub mod Parts
 pub mod Reached
 pub mod Ready
 pub mod Refusal

@@ -1,83 +1,97 @@
--- Of a contraction that was accepted: the address words that code forms from folded groups are the addresses of entries, each inside its slice.
+-- Of a contraction that was accepted: the address words that code forms from folded labels are the addresses of entries, each inside its slice.
 -- Assumes nothing.
-use mathlib.Core.Path.{_≡_, sym, ap, _∙_}
-use mathlib.Core.Bool.{_&&_}
-use mathlib.Core.List.{List}
-use Prim.Native.Nat.{ℕ, _+_, _*_, _-_, _^_, _≤_, _<_}
+use mathlib.Core.Path.{_≡_, refl, sym, ap, _∙_}
+use mathlib.Core.Bool.{true, _&&_}
+use mathlib.Core.List.{List, [], _∷_}
+use Prim.Native.Nat.{ℕ, _+_, _*_, _^_, _≤_, _<_}
 use native.Mathlib.Omega.{arith}
 use borrow.Author.Tests.{leb-true}
-use lib.Dec.{T, leb}
+use lib.Dec.{leb}
+use lib.IntN.{ℤ}
+use Rattle.words.specs.Sums.{total}
+use Rattle.words.specs.Lists.{member}
 use Rattle.words.specs.Words.{word, up, down, wordOf}
-use Rattle.words.proofs.Lists.{T-true, all-imp}
+use Rattle.words.proofs.Lists.{T-true}
 use Rattle.words.proofs.Sums.{and-split}
 use Rattle.words.proofs.Modular.{word-add-left}
-use Rattle.words.proofs.Whole.{sign, size-parts}
+use Rattle.words.proofs.Whole.{sign}
 use Rattle.layout.specs.declared.layout.Layout.{Layout}
 use Rattle.layout.specs.Limits.{baseLimit, sliceLimit}
 use Rattle.layout.specs.Layout.{axes, address}
-use Rattle.layout.specs.Questions.{stridesValid, sizesValid, extentsAgree}
+use Rattle.layout.specs.Questions.{stridesValid, sizesValid}
 use Rattle.layout.specs.Bounds.{Inside}
 use Rattle.layout.proofs.Bounds.{inside-every}
-use Rattle.contraction.specs.Operands.{Operand, D, shape, together}
-use Rattle.contraction.specs.Groups.{Label, depth, group, outputs, size, offsetIn}
+use Rattle.contraction.specs.Operands.{Operand, D, shape}
+use Rattle.contraction.specs.Groups.{letters, Group, batch, row, column, depth, labelsWhere, group, outputs, size, offsetIn}
 use Rattle.contraction.specs.Fold.{fold}
-use Rattle.contraction.specs.Index.{at, outIndex}
-use Rattle.contraction.specs.Ready.{Foldable}
-use Rattle.contraction.proofs.Address.{group-balanced}
-use Rattle.contraction.proofs.FoldKeeps.{fold-up, fold-down}
-use Rattle.contraction.proofs.Foldable.{group-foldable, outputs-foldable, fold-foldable}
-use Rattle.contraction.proofs.Outputs.{out-in-range, term-in-range, along-out, along-term, outputs-balanced, address-out, address-term}
+use Rattle.contraction.specs.Index.{at, index, outIndex}
+use Rattle.contraction.proofs.Counts.{groupsAt, groups-separate, groups-cover, outputAt, depthAt, out-separate, out-covers, term-separate, term-covers}
+use Rattle.contraction.proofs.Foldable.{where-foldable}
+use Rattle.contraction.proofs.Parts.{Part, Separate, Below, covered, atParts, offsets, parts-in-range, parts-balanced, address-parts}
 use Rattle.contraction.proofs.Ready.{AllPassed}
-use Rattle.contraction.proofs.Wrapped.{wraps, offset-word}
-
--- the words of a folded group's offsets, and how far the unfolded group's go up and down
-pub folded-word : (o : Operand) (g : List Label) (k : ℕ) → Foldable g
-    → offsetIn (wordOf 64) o (fold g) k + offsetIn down o g k ≡ offsetIn up o g k + offsetIn sign o (fold g) k * 2 ^ 64
-folded-word o g k f =
-    rw (← fold-up o g .offsets k, ← fold-down o g .offsets k)
-    (offset-word o (fold g) k (all-imp (λ l s. let z = s .strides o in omega (arith, z, size-parts (l .stride o))) (fold g) (fold-foldable g f .strides)))
+use Rattle.contraction.proofs.Wrapped.{wraps, folded-word}
 
 module _ (t : Operand → Layout) (n : Operand → ℕ) (p : AllPassed t n) where
-  same : T (extentsAgree (together (shape t)))
-  same = rw (p .agree) tt
+  -- the offsets of the folded labels at all counts
+  abbrev pub foldedOffsets : (ℤ → ℕ) → Operand → List Part → ℕ
+  foldedOffsets part o ps = total (λ q. offsetIn part o (fold (labelsWhere (shape t) (q .test))) (q .count)) ps
 
-  pub slice-small : (o : Operand) → n o ≤ sliceLimit
+  parts-words : (o : Operand) (ps : List Part)
+      → foldedOffsets (wordOf 64) o ps + offsets (shape t) down o ps ≡ offsets (shape t) up o ps + foldedOffsets sign o ps * 2 ^ 64
+  parts-words o [] = refl
+  parts-words o (q ∷ ps) = omega (arith, folded-word o (labelsWhere (shape t) (q .test)) (q .count) (where-foldable t n p (q .test)), parts-words o ps)
+
+  slice-small : (o : Operand) → n o ≤ sliceLimit
   unfolding sizesValid
   slice-small o =
       leb-true (n o) sliceLimit
-      (T-true _ (and-split (leb (t o .base) baseLimit) (leb (n o) sliceLimit) (and-split (stridesValid (axes (t o))) (leb (t o .base) baseLimit && leb (n o) sliceLimit) (rw (p .each .sizes o) tt) .1) .1))
+      (T-true _
+      (and-split (leb (t o .base) baseLimit) (leb (n o) sliceLimit)
+      (and-split (stridesValid (axes (t o))) (leb (t o .base) baseLimit && leb (n o) sliceLimit) (rw (p .each .sizes o) tt) .1) .1))
 
+  -- ---- any parts that cover the letters of a tensor
+  module _ (o : Operand) (ps : List Part) (apart : Separate ps) (below : Below (shape t) ps)
+      (covers : (c : ℕ) → member c (letters (shape t) o) ≡ true → covered c ps ≡ true) where
+    pub parts-inside : Inside (t o) (n o) (atParts (shape t) ps)
+    parts-inside = inside-every (t o) (n o) (rw (p .within o) tt) (atParts (shape t) ps) (parts-in-range (shape t) (rw (p .agree) tt) o ps below covers)
+
+    pub reached-parts : word 64 (t o .base + foldedOffsets (wordOf 64) o ps) ≡ address (t o) (atParts (shape t) ps)
+    reached-parts =
+        let s = shape t in
+        let bound : address (t o) (atParts s ps) < 2 ^ 64 = omega (arith, parts-inside .1, slice-small o) in
+        wraps (t o .base) (offsets s up o ps) (offsets s down o ps) (foldedOffsets (wordOf 64) o ps) (foldedOffsets sign o ps) (parts-words o ps)
+        (omega (arith, parts-inside .0, parts-balanced s o ps apart)) (rw (← address-parts t o ps apart) bound)
+        ∙ sym (address-parts t o ps apart)
+
+  -- ---- four groups at their counts
+  module _ (m : Group → ℕ) (h : (g : Group) → m g < size (group (shape t) g)) (o : Operand) where
+    pub index-inside : Inside (t o) (n o) (index (shape t) m)
+    unfolding index group
+    index-inside = parts-inside o (groupsAt (shape t) m) (groups-separate (shape t) m) (h depth, (h batch, (h row, (h column, tt)))) (λ c e. groups-cover (shape t) m c)
+
+    pub reached-index : word 64 (t o .base + foldedOffsets (wordOf 64) o (groupsAt (shape t) m)) ≡ address (t o) (index (shape t) m)
+    unfolding index group
+    reached-index = reached-parts o (groupsAt (shape t) m) (groups-separate (shape t) m) (h depth, (h batch, (h row, (h column, tt)))) (λ c e. groups-cover (shape t) m c)
+
+  -- ---- an output count, alone in D, and with a depth count in every tensor
   module _ (m : ℕ) (h : m < size (outputs (shape t))) where
-    -- an output's entry is inside D's slice, and its address word is its address
     pub out-inside : Inside (t D) (n D) (outIndex (shape t) m)
-    out-inside = inside-every (t D) (n D) (rw (p .within D) tt) (outIndex (shape t) m) (out-in-range (shape t) same m h)
+    unfolding outputs outIndex
+    out-inside = parts-inside D (outputAt (shape t) m ∷ []) (out-separate (shape t) m) (h, tt) (out-covers (shape t) m)
 
     pub reached-out : word 64 (t D .base + offsetIn (wordOf 64) D (fold (outputs (shape t))) m) ≡ address (t D) (outIndex (shape t) m)
-    reached-out =
-        let s = shape t in
-        let bound : address (t D) (outIndex s m) < 2 ^ 64 = omega (arith, out-inside .1, slice-small D) in
-        wraps (t D .base) (offsetIn up D (outputs s) m) (offsetIn down D (outputs s) m) (offsetIn (wordOf 64) D (fold (outputs s)) m) (offsetIn sign D (fold (outputs s)) m)
-        (folded-word D (outputs s) m (outputs-foldable t n p))
-        (omega (arith, out-inside .0, along-out s up D m, along-out s down D m, outputs-balanced s D m))
-        (rw (← address-out t D m) bound)
-        ∙ sym (address-out t D m)
+    unfolding outputs outIndex
+    reached-out = ap (word 64) (omega arith) ∙ reached-parts D (outputAt (shape t) m ∷ []) (out-separate (shape t) m) (h, tt) (out-covers (shape t) m)
 
-    -- with a depth count, so it is of every tensor
     module _ (k : ℕ) (i : k < size (group (shape t) depth)) (o : Operand) where
       pub term-inside : Inside (t o) (n o) (at (group (shape t) depth) k (outIndex (shape t) m))
-      term-inside = inside-every (t o) (n o) (rw (p .within o) tt) (at (group (shape t) depth) k (outIndex (shape t) m)) (term-in-range (shape t) same m k h i o)
+      unfolding outputs outIndex group
+      term-inside = parts-inside o (depthAt (shape t) k ∷ outputAt (shape t) m ∷ []) (term-separate (shape t) m k) (i, (h, tt)) (λ c e. term-covers (shape t) m k c)
 
       pub reached-term : word 64 (word 64 (t o .base + offsetIn (wordOf 64) o (fold (outputs (shape t))) m) + offsetIn (wordOf 64) o (fold (group (shape t) depth)) k)
           ≡ address (t o) (at (group (shape t) depth) k (outIndex (shape t) m))
+      unfolding outputs outIndex group
       reached-term =
-          let s = shape t in
-          let bound : address (t o) (at (group s depth) k (outIndex s m)) < 2 ^ 64 = omega (arith, term-inside .1, slice-small o) in
-          word-add-left 64 (t o .base + offsetIn (wordOf 64) o (fold (outputs s)) m) (offsetIn (wordOf 64) o (fold (group s depth)) k)
+          word-add-left 64 (t o .base + offsetIn (wordOf 64) o (fold (outputs (shape t))) m) (offsetIn (wordOf 64) o (fold (group (shape t) depth)) k)
           ∙ ap (word 64) (omega arith)
-          ∙ wraps (t o .base) (offsetIn up o (outputs s) m + offsetIn up o (group s depth) k) (offsetIn down o (outputs s) m + offsetIn down o (group s depth) k)
-          (offsetIn (wordOf 64) o (fold (outputs s)) m + offsetIn (wordOf 64) o (fold (group s depth)) k)
-          (offsetIn sign o (fold (outputs s)) m + offsetIn sign o (fold (group s depth)) k)
-          (omega (arith, folded-word o (outputs s) m (outputs-foldable t n p), folded-word o (group s depth) k (group-foldable t n p depth)))
-          (omega (arith, term-inside .0, along-term s up o m k, along-term s down o m k, outputs-balanced s o m, group-balanced s o depth k))
-          (rw (← address-term t o m k) bound)
-          ∙ sym (address-term t o m k)
+          ∙ reached-parts o (depthAt (shape t) k ∷ outputAt (shape t) m ∷ []) (term-separate (shape t) m k) (i, (h, tt)) (λ c e. term-covers (shape t) m k c)

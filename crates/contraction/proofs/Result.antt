@@ -27,7 +27,8 @@ use Rattle.contraction.specs.Meaning.{Slices, shapeIn, entry, value, ove
 use Rattle.contraction.proofs.Address.{group-distinct}
 use Rattle.contraction.proofs.Nested.{sumOver-is-sumTo}
 use Rattle.contraction.proofs.Index.{at-injective}
-use Rattle.contraction.proofs.Outputs.{outputs-all, outputs-distinct, out-in-range}
+use Rattle.contraction.proofs.Outputs.{outputs-all, outputs-distinct}
+use Rattle.contraction.proofs.Counts.{out-in-range}
 
 module _ (place v : ℕ → ℕ) (w : List ℕ) where
   pub length-overwrite : (n : ℕ) → length (overwrite n place v w) ≡ length w

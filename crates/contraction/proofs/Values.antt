@@ -24,7 +24,8 @@ use Rattle.contraction.specs.Index.{at, outIndex}
 use Rattle.contraction.specs.Meaning.{Slices, shapeIn, entry, value, result}
 use Rattle.contraction.proofs.Ready.{AllPassed}
 use Rattle.contraction.proofs.Index.{letter-in, group-same}
-use Rattle.contraction.proofs.Outputs.{out-in-range, is-depth, not-depth}
+use Rattle.contraction.proofs.Outputs.{is-depth, not-depth}
+use Rattle.contraction.proofs.Counts.{out-in-range}
 use Rattle.contraction.proofs.Address.{clear}
 use Rattle.contraction.proofs.Onto.{outputs-onto}
 use Rattle.contraction.proofs.Result.{result-at, result-other, term, value-counts}

@@ -7,7 +7,7 @@ use lib.IntN.{ℤ, pos, negsuc}
 use Rattle.layout.specs.declared.layout.Layout.{Layout}
 use Rattle.layout.specs.Layout.{layoutOf}
 use Rattle.contraction.specs.declared.contraction.Contraction.{Contraction}
-use Rattle.contraction.specs.Operands.{three}
+use Rattle.contraction.specs.Operands.{three, contractionOf}
 use Rattle.contraction.specs.Groups.{Label}
 use Rattle.contraction.specs.Fold.{fold}
 use Rattle.contraction.specs.Meaning.{Slices, firstNo, result}
@@ -40,12 +40,9 @@ matrix e s f u = layoutOf (105 ∷ 106 ∷ []) (e ∷ f ∷ []) (s ∷ u ∷ [])
 abbrev diagonal : ℕ → ℤ → ℕ → ℤ → Layout
 diagonal e s f u = layoutOf (105 ∷ 105 ∷ []) (e ∷ f ∷ []) (s ∷ u ∷ []) 0
 
-abbrev contraction : Layout → Layout → Layout → ℕ → ℕ → Contraction
-contraction a b d alpha beta = record { a = a; b = b; d = d; alpha = alpha; beta = beta }
-
 -- alpha 1, beta 0
 abbrev plain : Layout → Layout → Layout → Contraction
-plain a b d = contraction a b d 1 0
+plain a b d = contractionOf a b d 1 0
 
 -- a label with one stride in every tensor
 abbrev lab : ℕ → ℕ → ℤ → Label
@@ -53,7 +50,7 @@ lab c e s = record { letter = c; extent = e; stride = λ o. s }
 
 abbrev pub edges : List Edge
 edges =
-    gives (contraction scalar scalar scalar 2 1) (three (3 ∷ []) (5 ∷ []) (7 ∷ [])) (37 ∷ [])
+    gives (contractionOf scalar scalar scalar 2 1) (three (3 ∷ []) (5 ∷ []) (7 ∷ [])) (37 ∷ [])
     ∷ gives (plain scalar scalar scalar) (three (4294967295 ∷ []) (4294967295 ∷ []) (0 ∷ [])) (1 ∷ [])
     ∷ gives (plain (vector 3 (pos 1) 0) scalar scalar) (three (1 ∷ 2 ∷ 3 ∷ []) (10 ∷ []) (0 ∷ [])) (60 ∷ [])
     ∷ gives (plain scalar scalar (vector 2 (pos 1) 0)) (three (2 ∷ []) (3 ∷ []) (0 ∷ 0 ∷ [])) (6 ∷ 6 ∷ [])

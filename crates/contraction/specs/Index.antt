@@ -1,6 +1,6 @@
 -- Indices: a value for each letter. The index of a count of a group, and sums over all values of a group's labels.
 -- Assumes nothing.
-use Prim.Native.Nat.{ℕ, _+_, _/_, _%_}
+use Prim.Native.Nat.{ℕ, _/_, _%_}
 use mathlib.Core.Bool.{cond}
 use mathlib.Core.List.{List, [], _∷_}
 use lib.Dec.{eqb}
@@ -25,10 +25,6 @@ sumOver (l ∷ g) f ρ = sumTo (l .extent) (λ v. sumOver g f (assign ρ (l .let
 -- the index at four counts, one for each group
 unfoldable pub index : Shape → (Group → ℕ) → ℕ → ℕ
 index s n = at (group s depth) (n depth) (at (group s batch) (n batch) (at (group s row) (n row) (at (group s column) (n column) (λ c. 0))))
-
--- the sum of a number over the four groups
-abbrev pub overGroups : (Group → ℕ) → ℕ
-overGroups f = f column + f row + f batch + f depth
 
 -- the index of a count of D's labels
 unfoldable pub outIndex : Shape → ℕ → ℕ → ℕ

@@ -22,14 +22,18 @@ firstNo c w = refusal (layoutQuestions (tensors c) (λ o. length (w o)))
 abbrev pub shapeIn : Contraction → Shape
 shapeIn c = shape (tensors c)
 
+-- alpha × a sum + beta × an old word, modulo 2^32
+abbrev pub combined : ℕ → ℕ → ℕ → ℕ → ℕ
+combined alpha beta sum old = word 32 (alpha * sum + beta * old)
+
 module _ (c : Contraction) (w : Slices) where
   -- the entry of a tensor at an index: a tensor that lacks a label has the same entry at each of its values
   unfoldable pub entry : Operand → (ℕ → ℕ) → ℕ
   entry o ρ = getD (w o) (address (tensors c o) ρ) 0
 
-  -- alpha × (the sum, over every label that D lacks, of A's entry × B's entry) + beta × old
+  -- alpha × (the sum, over every label that D lacks, of A's entry × B's entry) + beta × old word
   unfoldable pub value : (ℕ → ℕ) → ℕ
-  value ρ = word 32 (c .alpha * sumOver (group (shapeIn c) depth) (λ σ. entry A σ * entry B σ) ρ + c .beta * entry D ρ)
+  value ρ = combined (c .alpha) (c .beta) (sumOver (group (shapeIn c) depth) (λ σ. entry A σ * entry B σ) ρ) (entry D ρ)
 
 -- the words w with, for each count below n, its value v put at its place
 abbrev pub overwrite : ℕ → (ℕ → ℕ) → (ℕ → ℕ) → List ℕ → List ℕ

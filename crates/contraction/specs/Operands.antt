@@ -24,6 +24,10 @@ three a b d A = a
 three a b d B = b
 three a b d D = d
 
+-- the contraction of these layouts and factors
+abbrev pub contractionOf : Layout → Layout → Layout → ℕ → ℕ → Contraction
+contractionOf a b d alpha beta = record { a = a; b = b; d = d; alpha = alpha; beta = beta }
+
 abbrev pub tensors : Contraction → Operand → Layout
 tensors c = three (c .a) (c .b) (c .d)
 

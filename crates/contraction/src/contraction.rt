@@ -1,4 +1,5 @@
 ghost use mathlib.Core.Path.{_≡_};
+ghost use Rattle.contraction.specs.Operands.{contractionOf};
 use layout::layout::Layout;
 
 // D's word becomes alpha × (sum over every label that D lacks of A's entry × B's entry) + beta × old word.
@@ -19,7 +20,7 @@ pub struct Lengths {
 
 impl Contraction {
     pub fn new(a: Layout, b: Layout, d: Layout, alpha: u32, beta: u32) -> Contraction
-        ensures { λ r. ⌜ r ≡ record { a = a; b = b; d = d; alpha = alpha; beta = beta } ⌝ }
+        ensures { λ r. ⌜ r ≡ contractionOf a b d alpha beta ⌝ }
     {
         Contraction {
             a,

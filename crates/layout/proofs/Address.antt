@@ -48,11 +48,6 @@ signed-address l ρ h = from-parts _ _ _ (omega (arith, shift-parts (axes l) ρ,
 pub along-zero : (part : ℤ → ℕ) (xs : List Axis) → along part xs (λ c. 0) ≡ 0
 along-zero part xs = total-ext (λ a. zero-mul (part (a .stride))) xs ∙ total-zero xs
 
--- the entry at index 0, 0, .. is the word at the base
-pub address-zero : (l : Layout) → address l (λ c. 0) ≡ l .base
-unfolding address
-address-zero l = rw (along-zero up (axes l), along-zero down (axes l)) (omega arith)
-
 pub along-agree : (part : ℤ → ℕ) (xs : List Axis) (ρ σ : ℕ → ℕ) → All (λ a. ρ (a .letter) ≡ σ (a .letter)) xs → along part xs ρ ≡ along part xs σ
 along-agree part [] ρ σ h = refl
 along-agree part (a ∷ xs) ρ σ h = rw (h .0, along-agree part xs ρ σ (h .1))

@@ -1,9 +1,7 @@
--- What the flat calls take and give.
+-- What the flat calls give.
 -- Assumes nothing.
 use Prim.Native.Nat.{ℕ}
 use mathlib.Core.List.{List}
-use Rattle.layout.specs.declared.layout.Layout.{Layout}
-use Rattle.contraction.specs.declared.contraction.Contraction.{Contraction}
 use Rattle.plain.specs.Call.{Answer, done, refused, Call}
 
 -- an answer as a number: 0 where the call is done, else that of the question that refused
@@ -21,6 +19,3 @@ returned n words = record { number = n; words = words }
 
 abbrev pub flat : Call → Flat
 flat k = returned (number (k .answer)) (k .words)
-
-abbrev pub contractionOf : Layout → Layout → Layout → ℕ → ℕ → Contraction
-contractionOf a b d alpha beta = record { a = a; b = b; d = d; alpha = alpha; beta = beta }

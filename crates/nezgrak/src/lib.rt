@@ -1,9 +1,9 @@
 // The calls for C and Rust: flat parameters, a slice as a pointer and then a length. Each answers 0, or the number of the question that refused.
 ghost use mathlib.Core.Path.{_≡_};
 ghost use Rattle.layout.specs.Layout.{layoutOf};
-ghost use Rattle.contraction.specs.Operands.{three};
+ghost use Rattle.contraction.specs.Operands.{three, contractionOf};
 ghost use Rattle.plain.specs.Call.{answerOf, plainCall};
-ghost use Rattle.nezgrak.specs.Flat.{number, returned, flat, contractionOf};
+ghost use Rattle.nezgrak.specs.Flat.{number, returned, flat};
 use contraction::contraction::Contraction;
 use layout::layout::Layout;
 use plain::call::Outcome;

@@ -15,12 +15,12 @@ use Rattle.contraction.specs.Operands.{Operand, A, B, D, tensors}
 use Rattle.contraction.specs.Groups.{Label, depth, group, outputs, size}
 use Rattle.contraction.specs.Fold.{fold}
 use Rattle.contraction.specs.Index.{at, outIndex}
-use Rattle.contraction.specs.Meaning.{Slices, shapeIn, entry, value, overwrite, result}
+use Rattle.contraction.specs.Meaning.{Slices, shapeIn, combined, entry, value, overwrite, result}
 use Rattle.contraction.proofs.Ready.{AllPassed}
 use Rattle.contraction.proofs.FoldKeeps.{fold-size}
 use Rattle.contraction.proofs.Result.{overwrite-other, outputs-apart, term, value-counts}
 use Rattle.contraction.proofs.Reached.{out-inside, reached-out, term-inside, reached-term}
-use Rattle.plain.specs.Walk.{reached, dot, sumFrom, scored, filled, Readable, Clear}
+use Rattle.plain.specs.Walk.{reached, dot, sumFrom, filled, Readable, Clear}
 
 module _ (c : Contraction) (w : Slices) (p : AllPassed (tensors c) (λ o. length (w o))) (base : Operand → ℕ) (bases : (o : Operand) → base o ≡ tensors c o .base) where
   -- the folded groups, and the address words of an output count
@@ -61,7 +61,7 @@ module _ (c : Contraction) (w : Slices) (p : AllPassed (tensors c) (λ o. length
     sum-is = rw (fold-size (group (shapeIn c) depth)) (sumTo-ext (size (group (shapeIn c) depth)) (λ k i. rw (read k i A, read k i B)))
 
     value-is : (old : ℕ) → old ≡ entry c w D (outIndex (shapeIn c) m)
-        → scored (c .alpha) (c .beta) (sumFrom inner (w A) (w B) (words m)) old ≡ value c w (outIndex (shapeIn c) m)
+        → combined (c .alpha) (c .beta) (sumFrom inner (w A) (w B) (words m)) old ≡ value c w (outIndex (shapeIn c) m)
     value-is old e = rw (sum-is, e) (sym (value-counts c w (outIndex (shapeIn c) m)))
 
   pub clear : Clear (size outer) words inner (w A) (w B) (length (w D))

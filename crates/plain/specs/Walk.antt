@@ -12,6 +12,7 @@ use Rattle.layout.specs.Limits.{axesLimit}
 use Rattle.contraction.specs.Operands.{Operand, A, B, D}
 use Rattle.contraction.specs.Groups.{Label, size, offsetIn, labelsIn}
 use Rattle.contraction.specs.declared.offsets.Offsets.{Offsets}
+use Rattle.contraction.specs.Meaning.{combined}
 use Rattle.contraction.specs.Offsets.{wordsIn}
 use Rattle.contraction.specs.Ready.{Foldable}
 use Rattle.plain.specs.declared.walk.Walk.{Walk}
@@ -39,13 +40,9 @@ dot n i a j b = sumTo n (λ k. getD a (i k) 0 * getD b (j k) 0)
 unfoldable pub sumFrom : List Label → List ℕ → List ℕ → (Operand → ℕ) → ℕ
 sumFrom g a b at = dot (size g) (reached A (at A) g) a (reached B (at B) g) b
 
--- alpha × the sum + beta × the old word
-abbrev pub scored : ℕ → ℕ → ℕ → ℕ → ℕ
-scored alpha beta sum old = word 32 (alpha * sum + beta * old)
-
 -- D's words with the one at an output's address word filled
 unfoldable pub filled : ℕ → ℕ → List Label → List ℕ → List ℕ → (Operand → ℕ) → List ℕ → List ℕ
-filled alpha beta g a b at = put (scored alpha beta (sumFrom g a b at)) (at D)
+filled alpha beta g a b at = put (combined alpha beta (sumFrom g a b at)) (at D)
 
 -- ---- what the loops may assume
 

@@ -2,14 +2,15 @@ ghost use mathlib.Core.Path.{_≡_};
 ghost use lib.ListN.{length};
 ghost use Rattle.words.specs.Loops.{each};
 ghost use Rattle.contraction.specs.Groups.{size};
-ghost use Rattle.plain.specs.Walk.{steps, places, over, scored, filled, Walks, Clear};
+ghost use Rattle.contraction.specs.Meaning.{combined};
+ghost use Rattle.plain.specs.Walk.{steps, places, over, filled, Walks, Clear};
 use super::sum::depth_sum;
 use super::walk::Walk;
 use contraction::offsets::Offsets;
 
 // alpha × a sum + beta × the old word.
-fn score(alpha: u32, sum: u32, beta: u32, old: u32) -> u32
-    ensures { λ r. ⌜ r ≡ scored alpha beta sum old ⌝ }
+fn combine(alpha: u32, sum: u32, beta: u32, old: u32) -> u32
+    ensures { λ r. ⌜ r ≡ combined alpha beta sum old ⌝ }
 {
     std::num::wrapping_add_u32(words::mul(alpha, sum), words::mul(beta, old))
 }
@@ -35,7 +36,7 @@ fn fill_run(
         let sum = depth_sum(a, b, at, depth);
         let place = at.d as usize;
         let old = d[place];
-        d[place] = score(alpha, sum, beta, old);
+        d[place] = combine(alpha, sum, beta, old);
         at = at.plus(step);
         v += 1;
     }

@@ -145,10 +145,6 @@ total-single d s ρ (c ∷ cs) u m = go (eqb d c) refl m (total-single d s ρ cs
     go true e m r = let p : d ≡ c = eqb-true d c e in rw (none cs (rw p (u .0)), ← p) (add-zero _)
     go false e m r = omega (arith, r m)
 
-pub all-append : {X : Type 0} (P : X → Type 0) (xs ys : List X) → All P xs → All P ys → All P (xs ++ ys)
-all-append P [] ys h k = k
-all-append P (x ∷ xs) ys h k = (h .0, all-append P xs ys (h .1) k)
-
 pub all-split : {X : Type 0} (P : X → Type 0) (xs ys : List X) → All P (xs ++ ys) → All P xs × All P ys
 all-split P [] ys h = (tt, h)
 all-split P (x ∷ xs) ys h = let r = all-split P xs ys (h .1) in ((h .0, r .0), r .1)
@@ -160,14 +156,6 @@ all-member P c (d ∷ cs) a m = go (eqb c d) (eqb-true c d) m (all-member P c cs
     go : (b : Bool) → (b ≡ true → c ≡ d) → (b || member c cs) ≡ true → (member c cs ≡ true → P c) → P c
     go true e m r = subst⁻¹ P (e refl) (a .0)
     go false e m r = r m
-
-pub member-left : (c : ℕ) (xs ys : List ℕ) → member c xs ≡ true → member c (xs ++ ys) ≡ true
-member-left c [] ys m = absurd (true≢false (sym m))
-member-left c (x ∷ xs) ys m = go (eqb c x) m (member-left c xs ys)
-  where
-    go : (b : Bool) → (b || member c xs) ≡ true → (member c xs ≡ true → member c (xs ++ ys) ≡ true) → (b || member c (xs ++ ys)) ≡ true
-    go true m r = refl
-    go false m r = r m
 
 pub member-right : (c : ℕ) (xs ys : List ℕ) → member c ys ≡ true → member c (xs ++ ys) ≡ true
 member-right c [] ys m = m

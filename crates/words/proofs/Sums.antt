@@ -20,17 +20,9 @@ module _ {X : Type 0} where
   total-add f g [] = refl
   total-add f g (x ∷ xs) = omega (arith, total-add f g xs)
 
-  pub total-mul : (k : ℕ) (f : X → ℕ) (xs : List X) → total (λ x. k * f x) xs ≡ k * total f xs
-  total-mul k f [] = omega arith
-  total-mul k f (x ∷ xs) = omega (arith, total-mul k f xs)
-
   pub total-zero : (xs : List X) → total (λ x. 0) xs ≡ 0
   total-zero [] = refl
   total-zero (x ∷ xs) = omega (arith, total-zero xs)
-
-pub total-map : {X Y : Type 0} (f : Y → ℕ) (h : X → Y) (xs : List X) → total f (map h xs) ≡ total (λ x. f (h x)) xs
-total-map f h [] = refl
-total-map f h (x ∷ xs) = rw (total-map f h xs)
 
 pub sumTo-ext : {f g : ℕ → ℕ} (n : ℕ) → ((i : ℕ) → i < n → f i ≡ g i) → sumTo n f ≡ sumTo n g
 unfolding sumTo

@@ -1,6 +1,6 @@
 -- Whole numbers by how far they go up and down, their products and sums, and their 64-bit words.
 -- Assumes nothing.
-use mathlib.Core.Path.{_≡_, refl, ap}
+use mathlib.Core.Path.{_≡_, refl}
 use mathlib.Core.Bool.{Bool, true, false, not, cond}
 use Prim.Native.Nat.{ℕ, zero, suc, _+_, _*_, _-_, _%_, _^_, _≤_, _<_}
 use native.Mathlib.Nat.{mul-zero}
@@ -46,17 +46,6 @@ down-mul e (negsuc n) = down-neg (e * suc n)
 pub size-parts : (s : ℤ) → natAbs s ≡ up s + down s
 size-parts (pos n) = omega arith
 size-parts (negsuc n) = omega arith
-
-pub one-part : (s : ℤ) → up s * down s ≡ 0
-one-part (pos n) = omega arith
-one-part (negsuc n) = omega arith
-
--- the parts determine the number
-pub by-parts : (x y : ℤ) → up x ≡ up y → down x ≡ down y → x ≡ y
-by-parts (pos a) (pos b) p q = ap pos p
-by-parts (pos a) (negsuc b) p q = absurd (omega arith)
-by-parts (negsuc a) (pos b) p q = absurd (omega arith)
-by-parts (negsuc a) (negsuc b) p q = ap negsuc (omega arith)
 
 pub size-add : (x y : ℤ) → natAbs (x +ℤ y) ≤ natAbs x + natAbs y
 size-add x y = go (x +ℤ y) (add-parts x y)

@@ -6,10 +6,11 @@ use Prim.Native.Nat.{ℕ}
 use borrow.Author.Needs.{needs}
 use Rattle.layout.specs.declared.layout.Layout.{Layout}
 use Rattle.contraction.specs.declared.contraction.Contraction.{Contraction}
+use Rattle.contraction.specs.Operands.{contractionOf}
 use Rattle.contraction.specs.Meaning.{Slices}
 use Rattle.plain.specs.declared.call.Outcome.{Outcome}
 use Rattle.plain.specs.Call.{answerOf, gave, plainCall}
-use Rattle.nezgrak.specs.Flat.{number, returned, flat, contractionOf}
+use Rattle.nezgrak.specs.Flat.{number, returned, flat}
 use Rattle.nezgrak.proofs.nezgrak_contract.Statement.{statement}
 use Rattle.nezgrak.proofs.nezgrak_contract.Tie as tie
 

@@ -14,8 +14,9 @@ use Rattle.words.proofs.Modular.{word-add-left, word-mul-right}
 use Rattle.contraction.specs.Operands.{Operand, A, B, D}
 use Rattle.contraction.specs.Groups.{Label, labelsIn}
 use Rattle.contraction.specs.declared.offsets.Offsets.{Offsets}
+use Rattle.contraction.specs.Meaning.{combined}
 use Rattle.contraction.specs.Offsets.{wordsIn, Words}
-use Rattle.plain.specs.Walk.{steps, scored, sumFrom, filled, Readable, Clear}
+use Rattle.plain.specs.Walk.{steps, sumFrom, filled, Readable, Clear}
 use Rattle.plain.proofs.fill.fill_run.Statement.{statement}
 use Rattle.plain.proofs.fill.fill_run.Tie as tie
 
@@ -36,8 +37,8 @@ at-next from step at r v e w = fun-ext (λ o. same o (ap (λ (f : Operand → �
     same o f = omega (arith, w .each o)
 
 -- to reduce the sum first changes nothing
-scored-word : (alpha beta sum old : ℕ) → scored alpha beta (word 32 sum) old ≡ scored alpha beta sum old
-scored-word alpha beta sum old =
+combined-word : (alpha beta sum old : ℕ) → combined alpha beta (word 32 sum) old ≡ combined alpha beta sum old
+combined-word alpha beta sum old =
     sym (word-add-left 32 (alpha * word 32 sum) (beta * old))
     ∙ ap (λ (x : ℕ). word 32 (x + beta * old)) (word-mul-right 32 alpha sum)
     ∙ word-add-left 32 (alpha * sum) (beta * old)
@@ -48,11 +49,11 @@ module _ (alpha beta : ℕ) (g : List Label) (a b : List ℕ) (to : ℕ → Oper
   fills v d₀ = each v (λ n. filled alpha beta g a b (to n)) d₀
 
   turn : (at : Operand → ℕ) (v sum r : ℕ) (d d₀ : List ℕ) → at ≡ to v → d ≡ fills v d₀
-      → sum ≡ word 32 (sumFrom g a b at) → r ≡ scored alpha beta sum (getD d (at D) 0) → set d (at D) r ≡ fills (v + 1) d₀
+      → sum ≡ word 32 (sumFrom g a b at) → r ≡ combined alpha beta sum (getD d (at D) 0) → set d (at D) r ≡ fills (v + 1) d₀
   unfolding each put filled
   turn at v sum r d d₀ p e s q =
-      let f : r ≡ scored alpha beta (sumFrom g a b at) (getD d (at D) 0)
-      = q ∙ ap (λ (x : ℕ). scored alpha beta x (getD d (at D) 0)) s ∙ scored-word alpha beta (sumFrom g a b at) (getD d (at D) 0) in
+      let f : r ≡ combined alpha beta (sumFrom g a b at) (getD d (at D) 0)
+      = q ∙ ap (λ (x : ℕ). combined alpha beta x (getD d (at D) 0)) s ∙ combined-word alpha beta (sumFrom g a b at) (getD d (at D) 0) in
       rw (add-one, ← e, ← p, f)
 
 -- the place that is written
@@ -96,8 +97,8 @@ slice-read-old c =
     let h : l .at .d < length (s .args .d .now) = inside (s .pre .1) (l .inv .2) (omega arith) in
     omega arith
 
-score-requires : tie.Need-score-requires Inv-loop μ-loop
-score-requires c κs = tt
+combine-requires : tie.Need-combine-requires Inv-loop μ-loop
+combine-requires c κs = tt
 
 mul-d : tie.Need-mul-d Inv-loop μ-loop
 mul-d c = mul-old (c .before .before)
@@ -121,7 +122,7 @@ loop-again c =
       omega arith,
       simp length-set (l .inv .1),
       at-next (s .args .from) (s .args .step) (l .at) (c .plus .result) (l .v) (l .inv .2) (c .plus .ensures),
-      turn _ _ _ _ _ (steps (s .args .from) (s .args .step)) _ _ _ _ _ _ (l .inv .2) (l .inv .3) (c .before .before .before .depth-sum .ensures) (c .before .score .ensures),
+      turn _ _ _ _ _ (steps (s .args .from) (s .args .step)) _ _ _ _ _ _ (l .inv .2) (l .inv .3) (c .before .before .before .depth-sum .ensures) (c .before .combine .ensures),
     )
 
 same-length : tie.Need-same-length Inv-loop μ-loop
@@ -144,7 +145,7 @@ fill-run-spec =
     depth-sum-requires
     mul-old
     slice-read-old
-    score-requires
+    combine-requires
     mul-d
     slice-write-d
     plus-requires

@@ -1,0 +1,98 @@
+-- An index made of several lists of labels, each at a count of its own: in range, and its address the base and all offsets. A group of a contraction is
+-- one such list, D's labels are another.
+-- Assumes nothing.
+use mathlib.Core.Path.{_≡_, refl, sym, _∙_}
+use mathlib.Core.Bool.{Bool, true, false, _||_, true≢false}
+use mathlib.Core.List.{List, [], _∷_}
+use Prim.Native.Nat.{ℕ, _+_, _-_, _<_, zero-le}
+use native.Mathlib.Nat.{lt-of-le-of-lt}
+use native.Mathlib.Omega.{arith}
+use lib.Dec.{T}
+use lib.IntN.{ℤ}
+use Rattle.words.specs.Sums.{All, total}
+use Rattle.words.specs.Lists.{member}
+use Rattle.words.specs.Words.{up, down}
+use Rattle.layout.specs.declared.layout.Layout.{Layout}
+use Rattle.layout.specs.Layout.{along, address}
+use Rattle.layout.specs.Labels.{labels}
+use Rattle.layout.specs.Questions.{extentsAgree}
+use Rattle.layout.specs.Bounds.{InRange}
+use Rattle.layout.proofs.Address.{along-zero}
+use Rattle.contraction.specs.Operands.{Operand, Shape, shape, together}
+use Rattle.contraction.specs.Groups.{label, letters, labelsWhere, size, offset, offsetIn}
+use Rattle.contraction.specs.Index.{at}
+use Rattle.contraction.proofs.Address.{where-clear, share, along-where, where-balanced}
+use Rattle.contraction.proofs.Index.{letter-in, where-lt, in-range}
+
+-- the labels whose letters pass a test, at a count
+pub record Part : Type 0 where
+  pub test : ℕ → Bool
+  pub count : ℕ
+
+-- the part fails the letter
+abbrev Misses : ℕ → Part → Type 0
+Misses c p = p .test c ≡ false
+
+-- no letter passes the tests of two
+abbrev pub Separate : List Part → Type 0
+Separate [] = Unit {0}
+Separate (p ∷ ps) = ((c : ℕ) → p .test c ≡ true → All (Misses c) ps) × Separate ps
+
+-- does a letter pass the test of one?
+abbrev pub covered : ℕ → List Part → Bool
+covered c [] = false
+covered c (p ∷ ps) = p .test c || covered c ps
+
+module _ (s : Shape) where
+  -- the index at all counts
+  abbrev pub atParts : List Part → ℕ → ℕ
+  atParts [] = λ c. 0
+  atParts (p ∷ ps) = at (labelsWhere s (p .test)) (p .count) (atParts ps)
+
+  -- each count is one of its labels'
+  abbrev pub Below : List Part → Type 0
+  Below ps = All (λ p. p .count < size (labelsWhere s (p .test))) ps
+
+  -- the offsets of all counts in a tensor
+  abbrev pub offsets : (ℤ → ℕ) → Operand → List Part → ℕ
+  offsets part o ps = total (λ p. offsetIn part o (labelsWhere s (p .test)) (p .count)) ps
+
+  clear : (ps : List Part) (c : ℕ) → All (Misses c) ps → atParts ps c ≡ 0
+  clear [] c h = refl
+  clear (p ∷ ps) c h = where-clear s (p .test) (p .count) (atParts ps) c (h .0) ∙ clear ps c (h .1)
+
+  -- ---- in range
+  value-lt : (ps : List Part) (c : ℕ) → Below ps → member c (labels (together s)) ≡ true → covered c ps ≡ true → atParts ps c < label s c .extent
+  value-lt [] c b m e = absurd (true≢false (sym e))
+  value-lt (p ∷ ps) c b m e = go (p .test c) refl e (value-lt ps c (b .1) m)
+    where
+      go : (t : Bool) → p .test c ≡ t → (t || covered c ps) ≡ true → (covered c ps ≡ true → atParts ps c < label s c .extent) → atParts (p ∷ ps) c < label s c .extent
+      go true k e r = where-lt s (p .test) (p .count) (atParts ps) c (lt-of-le-of-lt zero-le (b .0)) m k
+      go false k e r = rw (where-clear s (p .test) (p .count) (atParts ps) c k) (r e)
+
+  pub parts-in-range : T (extentsAgree (together s)) → (o : Operand) (ps : List Part) → Below ps → ((c : ℕ) → member c (letters s o) ≡ true → covered c ps ≡ true)
+      → InRange (s o) (atParts ps)
+  parts-in-range same o ps b h = in-range s same o (atParts ps) (λ c m. value-lt ps c b (letter-in s o c m) (h c m))
+
+  -- ---- the address
+  abbrev shares : (ℤ → ℕ) → Operand → List Part → ℕ
+  shares part o ps = total (λ p. offset (share s part o) (labelsWhere s (p .test)) (p .count)) ps
+
+  along-parts : (part : ℤ → ℕ) (o : Operand) (ps : List Part) → Separate ps → along part (s o) (atParts ps) ≡ shares part o ps
+  along-parts part o [] h = along-zero part (s o)
+  along-parts part o (p ∷ ps) h =
+      omega (arith, along-where s part o (p .test) (p .count) (atParts ps) (λ c e. clear ps c (h .0 c e)), along-parts part o ps (h .1))
+
+  balanced : (o : Operand) (ps : List Part) → offsets up o ps + shares down o ps ≡ offsets down o ps + shares up o ps
+  balanced o [] = refl
+  balanced o (p ∷ ps) = omega (arith, where-balanced s o (p .test) (p .count), balanced o ps)
+
+  -- what the axes go up and down, and what the labels go, differ by as much
+  pub parts-balanced : (o : Operand) (ps : List Part) → Separate ps → offsets up o ps + along down (s o) (atParts ps) ≡ offsets down o ps + along up (s o) (atParts ps)
+  parts-balanced o ps h = rw (along-parts up o ps h, along-parts down o ps h) (balanced o ps)
+
+-- the address at all counts is the base and all offsets
+pub address-parts : (t : Operand → Layout) (o : Operand) (ps : List Part) → Separate ps
+    → address (t o) (atParts (shape t) ps) ≡ (t o .base + offsets (shape t) up o ps) - offsets (shape t) down o ps
+unfolding address
+address-parts t o ps h = omega (arith, parts-balanced (shape t) o ps h)
