@@ -1,12 +1,22 @@
 # make test: proves every crate, tries the must-fail edits, runs every test. Its last line is 'N passed, 0 failed', or it fails.
-# make example: makes the archive, then builds and runs the examples in C and in Rust; each prints one line.
-.PHONY: test example
+# make example: makes the archive, then builds and runs the examples; each prints the same lines in C and in Rust.
+# make bench: makes the archive, then measures the tiled engine beside loops in Rust. Prints a table; fails where a required ratio is missed.
+.PHONY: test example bench archive
+cargo = cd rust && CARGO_TARGET_DIR=../target/cargo cargo
 test:
 	@tools/test
 
-example:
+archive:
 	@rt staticlib nezgrak >&2
+
+example: archive
 	@mkdir -p target/c
-	@cc -std=c11 -O2 -Wall -Wextra -Werror -Iinclude examples/plain.c target/staticlib/libnezgrak.a -o target/c/example
-	@target/c/example
-	@cd rust && CARGO_TARGET_DIR=../target/cargo cargo run --release --offline --quiet --example plain
+	@cc -std=c11 -O2 -Wall -Wextra -Werror -Iinclude examples/plain.c target/staticlib/libnezgrak.a -o target/c/example_plain
+	@cc -std=c11 -O2 -Wall -Wextra -Werror -Iinclude examples/tiles.c target/staticlib/libnezgrak.a -o target/c/example_tiles
+	@target/c/example_plain
+	@$(cargo) run --release --offline --quiet --example plain
+	@target/c/example_tiles
+	@$(cargo) run --release --offline --quiet --example tiles
+
+bench: archive
+	@$(cargo) bench --offline --quiet --bench tiles

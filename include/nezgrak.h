@@ -60,6 +60,98 @@ uint32_t nezgrak_contract(
     uint32_t *d, size_t d_count,
     uint32_t alpha, uint32_t beta);
 
+/* Runs tiles of the same contraction: the smaller of the budget and what is left after `done` tiles.
+ *
+ * The labels form four groups: batch (in A, B and D), column (in B and D, not A), row (every other label of D) and depth (every
+ * label not in D). Batch, row and column labels stand in the order of D's letters, depth labels in that of A's, then B's. A group
+ * counts through the values of its labels, the first label fastest, up to its size, the product of their extents.
+ *
+ * A tile is rows * cols * depth counts of the row, column and depth group, fewer at the edge. With MB, NB and KB the sizes of these
+ * groups divided by the tile's and rounded up, the tile of batch count h, column block c, panel p and row block r has the number
+ * ((h * NB + c) * KB + p) * MB + r; the total is batch size * NB * KB * MB. Tiles run in the order of their numbers. Panel 0 puts
+ * beta * old word + alpha * its part of the sum, later panels add alpha * their part: after the last tile D is what
+ * nezgrak_contract leaves.
+ *
+ * `done` is the count of tiles done before, 0 for a new contraction. Between calls everything but the budget and work stays the
+ * same. *done_after becomes the new count, and *complete 1 where that is the total, else 0.
+ *
+ * work, where a tile ran, holds the blocks of the last one: row r and depth d of A at r + rows * d, and from rows * depth on
+ * column c and depth d of B at c + cols * d; places past an edge hold 0. Its other words are unchanged, and all of them where no
+ * tile ran.
+ *
+ * Returns 0, or the number of the first question whose answer is no: 1 to 9 of nezgrak_contract, then
+ *
+ *     10  Are rows and cols 1 to 64 and depth 1 to 128?
+ *     11  Has work at least rows * depth + depth * cols words?
+ *     12  Is done at most the total?
+ *
+ * D and work are then unchanged, *done_after is done and *complete is 0.
+ *
+ * The caller has to see to what nezgrak_contract says, and to this: work points to work_count words, and done_after and complete
+ * each to one value, that can be read and written; they are aligned and not null; d, work, *done_after and *complete share no word
+ * with each other or with anything else that is passed, and no other thread reads or writes them during the call.
+ */
+uint32_t nezgrak_run_tiles(
+    const uint8_t *a_letters, size_t a_letter_count,
+    const uint32_t *a_extents, size_t a_extent_count,
+    const int32_t *a_strides, size_t a_stride_count,
+    uint32_t a_base,
+    const uint32_t *a, size_t a_count,
+    const uint8_t *b_letters, size_t b_letter_count,
+    const uint32_t *b_extents, size_t b_extent_count,
+    const int32_t *b_strides, size_t b_stride_count,
+    uint32_t b_base,
+    const uint32_t *b, size_t b_count,
+    const uint8_t *d_letters, size_t d_letter_count,
+    const uint32_t *d_extents, size_t d_extent_count,
+    const int32_t *d_strides, size_t d_stride_count,
+    uint32_t d_base,
+    uint32_t *d, size_t d_count,
+    uint32_t alpha, uint32_t beta,
+    uint32_t rows, uint32_t cols, uint32_t depth,
+    uint32_t *work, size_t work_count,
+    uint64_t done, uint64_t budget,
+    uint64_t *done_after, uint32_t *complete);
+
+/* What *state becomes. */
+enum {
+    NEZGRAK_OLD = 0,  /* no panel is done: the word has its old value */
+    NEZGRAK_PART = 1, /* some panels are done */
+    NEZGRAK_FINAL = 2 /* all panels are done: the word has its result */
+};
+
+/* Says how far the word of an output index is after `done` tiles. The index is given by its batch, row and column count.
+ *
+ * Returns 0, or the number of the first question whose answer is no: 1 to 10 and 12 of nezgrak_run_tiles, then
+ *
+ *     13  Is each of the three counts below its group's size?
+ *
+ * *state is then unchanged. A, B, D and the layouts are only read; of a, b and d only the counts matter. The caller has to see to
+ * what nezgrak_contract says, where d is only read too, and to this: state points to one value that can be read and written, is
+ * aligned and not null, and shares no word with anything else that is passed; no other thread reads or writes it during the call.
+ */
+uint32_t nezgrak_state(
+    const uint8_t *a_letters, size_t a_letter_count,
+    const uint32_t *a_extents, size_t a_extent_count,
+    const int32_t *a_strides, size_t a_stride_count,
+    uint32_t a_base,
+    const uint32_t *a, size_t a_count,
+    const uint8_t *b_letters, size_t b_letter_count,
+    const uint32_t *b_extents, size_t b_extent_count,
+    const int32_t *b_strides, size_t b_stride_count,
+    uint32_t b_base,
+    const uint32_t *b, size_t b_count,
+    const uint8_t *d_letters, size_t d_letter_count,
+    const uint32_t *d_extents, size_t d_extent_count,
+    const int32_t *d_strides, size_t d_stride_count,
+    uint32_t d_base,
+    const uint32_t *d, size_t d_count,
+    uint32_t alpha, uint32_t beta,
+    uint32_t rows, uint32_t cols, uint32_t depth,
+    uint64_t done,
+    uint64_t batch, uint64_t row, uint64_t column,
+    uint32_t *state);
+
 #ifdef __cplusplus
 }
 #endif
@@ -110,6 +202,42 @@ static inline uint32_t nezgrak_contract_layouts(
         b->letters, b->letter_count, b->extents, b->extent_count, b->strides, b->stride_count, b->base, b_words, b_count,
         d->letters, d->letter_count, d->extents, d->extent_count, d->strides, d->stride_count, d->base, d_words, d_count,
         alpha, beta);
+}
+
+/* nezgrak_run_tiles with each layout as one value. What it returns and what the caller has to see to are the same. */
+static inline uint32_t nezgrak_run_tiles_layouts(
+    const nezgrak_layout *a, const uint32_t *a_words, size_t a_count,
+    const nezgrak_layout *b, const uint32_t *b_words, size_t b_count,
+    const nezgrak_layout *d, uint32_t *d_words, size_t d_count,
+    uint32_t alpha, uint32_t beta,
+    uint32_t rows, uint32_t cols, uint32_t depth,
+    uint32_t *work, size_t work_count,
+    uint64_t done, uint64_t budget,
+    uint64_t *done_after, uint32_t *complete)
+{
+    return nezgrak_run_tiles(
+        a->letters, a->letter_count, a->extents, a->extent_count, a->strides, a->stride_count, a->base, a_words, a_count,
+        b->letters, b->letter_count, b->extents, b->extent_count, b->strides, b->stride_count, b->base, b_words, b_count,
+        d->letters, d->letter_count, d->extents, d->extent_count, d->strides, d->stride_count, d->base, d_words, d_count,
+        alpha, beta, rows, cols, depth, work, work_count, done, budget, done_after, complete);
+}
+
+/* nezgrak_state with each layout as one value. What it returns and what the caller has to see to are the same. */
+static inline uint32_t nezgrak_state_layouts(
+    const nezgrak_layout *a, const uint32_t *a_words, size_t a_count,
+    const nezgrak_layout *b, const uint32_t *b_words, size_t b_count,
+    const nezgrak_layout *d, const uint32_t *d_words, size_t d_count,
+    uint32_t alpha, uint32_t beta,
+    uint32_t rows, uint32_t cols, uint32_t depth,
+    uint64_t done,
+    uint64_t batch, uint64_t row, uint64_t column,
+    uint32_t *state)
+{
+    return nezgrak_state(
+        a->letters, a->letter_count, a->extents, a->extent_count, a->strides, a->stride_count, a->base, a_words, a_count,
+        b->letters, b->letter_count, b->extents, b->extent_count, b->strides, b->stride_count, b->base, b_words, b_count,
+        d->letters, d->letter_count, d->extents, d->extent_count, d->strides, d->stride_count, d->base, d_words, d_count,
+        alpha, beta, rows, cols, depth, done, batch, row, column, state);
 }
 
 #endif

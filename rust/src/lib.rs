@@ -1,11 +1,12 @@
 //! Safe calls of Nezgrak, a tensor contraction engine for 32-bit words.
 //!
 //! The engine is written in Rattle, and each of its functions is proved to do what a short definition says. This crate
-//! links its archive and adds no arithmetic of its own: it turns slices into the pointers and lengths that the archive
-//! takes, and the number that comes back into a [`Result`].
+//! links its archive and computes no word itself: it turns slices into the pointers and lengths that the archive takes,
+//! and the number that comes back into a [`Result`].
 //!
 //! A tensor is a slice of words that the caller lends, with a [`Layout`] that says which word is which entry.
-//! [`contract()`] contracts A and B into D.
+//! [`contract()`] contracts A and B into D at once. [`Tiles`] does it tile by tile, and other work can go on in between;
+//! [`run_tiles()`] and [`state()`] are its two calls, for callers that keep the count of tiles done themselves.
 //!
 //! ```
 //! use nezgrak::{contract, Layout};
@@ -27,7 +28,13 @@ mod contract;
 mod ffi;
 mod layout;
 mod refusal;
+mod run_tiles;
+mod state;
+mod tiles;
 
 pub use contract::contract;
 pub use layout::Layout;
 pub use refusal::Refusal;
+pub use run_tiles::{run_tiles, Progress, TileSizes};
+pub use state::{state, OutputIndex, State};
+pub use tiles::Tiles;

@@ -4,6 +4,9 @@ use core::fmt;
 /// The question that a call failed. Questions are asked in the order of their numbers, each of A, B and D before the
 /// next, so the number is that of the first *no*. A refused call changes no word.
 ///
+/// [`contract()`](crate::contract()) asks 1 to 9, [`run_tiles()`](crate::run_tiles()) 1 to 12, and
+/// [`state()`](crate::state()) 1 to 10, 12 and 13.
+///
 /// ```
 /// use nezgrak::{contract, Layout};
 ///
@@ -17,7 +20,7 @@ pub struct Refusal {
 }
 
 impl Refusal {
-    /// The question's number, 1 to 9.
+    /// The question's number, 1 to 13.
     #[must_use]
     pub const fn number(self) -> u32 {
         self.number
@@ -43,6 +46,10 @@ impl Refusal {
             7 => "the extents of all labels multiply to more than 1,073,741,824",
             8 => "an entry falls outside its tensor's slice",
             9 => "the strides of D do not keep its entries apart",
+            10 => "a tile's rows or columns are not from 1 to 64, or its depth is not from 1 to 128",
+            11 => "the work slice is too short for the packed blocks of a tile",
+            12 => "the count of tiles done is over the total",
+            13 => "a count of the output index is not below the size of its group",
             _ => "a question of another number",
         }
     }
@@ -70,8 +77,8 @@ mod tests {
 
     #[test]
     fn each_number_has_a_text_of_its_own() {
-        let texts: HashSet<_> = (1..=10).map(|n| Refusal::done_or(n).unwrap_err().finding()).collect();
-        assert_eq!(texts.len(), 10);
+        let texts: HashSet<_> = (1..=14).map(|n| Refusal::done_or(n).unwrap_err().finding()).collect();
+        assert_eq!(texts.len(), 14);
         assert_eq!(Refusal::done_or(6).unwrap_err().to_string(), "refused 6: a letter has two extents");
     }
 }

@@ -1,10 +1,22 @@
 //! The edges that document 01 lists. Those with a star there are also theorems of the definitions; here the archive
-//! runs them.
+//! runs them, by the plain call and by tile calls.
 
 mod common;
 
-use common::call::{gives, refuses};
 use common::case::{Case, Tensor};
+use common::list::List;
+use common::{call, cutting};
+use nezgrak::TileSizes;
+
+fn gives(case: &Case, words: &[u32]) {
+    call::gives(case, words);
+    cutting::gives(case, words);
+}
+
+fn refuses(case: &Case, number: u32) {
+    call::refuses(case, number);
+    cutting::refuses(case, number);
+}
 
 /// Alpha 1 and beta 0.
 fn plain(a: Tensor, b: Tensor, d: Tensor) -> Case {
@@ -98,11 +110,34 @@ fn a_repeated_letter_of_d_is_its_diagonal() {
     gives(&plain(Tensor::scalar(2), Tensor::scalar(3), d), &[6, 60, 70, 6]);
 }
 
-/// Document 01's example for the job program, with all its tiles run.
-#[test]
-fn matrix_product() {
+/// Document 01's example for the job program.
+fn example() -> Case {
     let a = Tensor::new("ik", &[2, 3], &[1, 2], 0, &[1, 2, 3, 4, 5, 6]);
     let b = Tensor::new("kj", &[3, 2], &[1, 3], 0, &[1, 0, 2, 0, 1, 1]);
     let d = Tensor::new("ij", &[2, 2], &[1, 2], 0, &[100, 200, 300, 400]);
-    gives(&Case { a, b, d, alpha: 1, beta: 2 }, &[211, 414, 608, 810]);
+    Case { a, b, d, alpha: 1, beta: 2 }
+}
+
+#[test]
+fn matrix_product() {
+    gives(&example(), &[211, 414, 608, 810]);
+}
+
+/// With its tile sizes and a budget. Old is 0, part 1, final 2.
+fn example_after(budget: u64, words: [u32; 4], states: [u32; 4]) {
+    let mut list = List::new(&example(), TileSizes { rows: 1, cols: 1, depth: 2 }, 0);
+    assert_eq!((list.left(), list.ask_all()), (8, vec![0; 4]));
+    assert_eq!(list.run(budget, vec![9; 4]), 0);
+    assert_eq!((list.done(), list.ask_all()), (budget, states.to_vec()));
+    assert_eq!(list.words(), words);
+}
+
+#[test]
+fn three_tiles_of_the_example() {
+    example_after(3, [211, 402, 300, 400], [2, 1, 0, 0]);
+}
+
+#[test]
+fn eight_tiles_of_the_example() {
+    example_after(8, [211, 414, 608, 810], [2; 4]);
 }

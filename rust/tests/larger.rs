@@ -1,49 +1,21 @@
-//! Larger contractions against the model, each once with packed tensors and random words.
+//! Larger contractions against the model, each with packed tensors and random words: by the plain call, and by tile
+//! calls with tiles of three sizes.
 
 mod common;
 
 use common::call::check;
-use common::case::{Case, Tensor};
-use common::rng::Rng;
-
-/// A tensor of these labels whose strides grow in this order, by extents or, with a gap, by a word more for each.
-fn tensor(rng: &mut Rng, labels: &[(u8, u32)], order: &str, gap: i32) -> Tensor {
-    let mut t = Tensor::new("", &[], &[], 0, &[]);
-    labels.iter().for_each(|(letter, extent)| t.push(*letter, *extent, 0));
-    let mut next = 1;
-    for letter in order.bytes() {
-        let axis = t.letters.iter().position(|l| *l == letter).expect("a label of the tensor");
-        t.strides[axis] = next;
-        next = next * t.extents[axis] as i32 + gap;
-    }
-    t.words = (0..next).map(|_| rng.word()).collect();
-    t
-}
-
-/// Turns an axis round, so that it counts down.
-fn reverse(t: &mut Tensor, axis: usize) {
-    let last = (t.extents[axis] as i32 - 1) * t.strides[axis];
-    t.base = (t.base as i32 + last) as u32;
-    t.strides[axis] = -t.strides[axis];
-}
-
-/// Operands as in `ik,kj>ij`, where each of the letters has its extent. An operand's axes stand in the order of the
-/// letters, and its strides grow in the order of the formula.
-fn contraction(seed: u64, formula: &str, letters: &str, extents: &[u32], gap: i32) -> Case {
-    println!("seed {seed:#x}: {formula}, {letters} {extents:?}");
-    let mut rng = Rng::new(seed);
-    let mut operand = |own: &str, gap| {
-        let mut labels: Vec<_> = letters.bytes().zip(extents.iter().copied()).collect();
-        labels.retain(|(letter, _)| own.as_bytes().contains(letter));
-        tensor(&mut rng, &labels, own, gap)
-    };
-    let names: Vec<&str> = formula.split([',', '>']).collect();
-    let (a, b, d) = (operand(names[0], 0), operand(names[1], 0), operand(names[2], gap));
-    Case { a, b, d, alpha: 0x9e37_79b9, beta: u32::MAX }
-}
+use common::case::{same_words, Case};
+use common::cutting::run_in;
+use common::formula::{contraction, reverse};
+use nezgrak::TileSizes;
 
 fn accepts(case: &Case) {
-    assert_eq!(check(case).answer, 0);
+    let plain = check(case);
+    assert_eq!(plain.answer, 0);
+    for (rows, cols, depth, calls) in [(64, 64, 128, 1), (33, 17, 40, 5), (7, 11, 13, 10)] {
+        let words = run_in(case, TileSizes { rows, cols, depth }, calls);
+        same_words("D", case, &words, &plain.words);
+    }
 }
 
 #[test]

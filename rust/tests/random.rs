@@ -7,7 +7,7 @@ use common::case::{Case, Tensor};
 use common::make::{accepted, spoil, Kind};
 use common::questions::labels;
 use common::rng::Rng;
-use std::collections::BTreeMap;
+use common::seen::Seen;
 
 const TURNS: usize = 8_000;
 
@@ -17,22 +17,6 @@ const KINDS: [(u64, Kind); 4] = [
     (0x5eed_0003, Kind { labels: 20, extents: &[1, 1, 2, 2, 3], terms: 500, aligned: false }),
     (0x5eed_0004, Kind { labels: 9, extents: &[1, 2, 2, 3, 3, 4], terms: 1_000, aligned: true }),
 ];
-
-/// How often each thing was seen, so that a test that tries nothing can't pass.
-#[derive(Default)]
-struct Seen(BTreeMap<String, usize>);
-
-impl Seen {
-    fn note(&mut self, name: &str, is_there: bool) {
-        *self.0.entry(name.to_string()).or_default() += usize::from(is_there);
-    }
-
-    fn at_least(&self, name: &str, least: usize) {
-        let count = self.0.get(name).copied().unwrap_or(0);
-        println!("{count} of {name}");
-        assert!(count >= least, "only {count} of {name}");
-    }
-}
 
 #[test]
 fn random_contractions() {
@@ -55,10 +39,7 @@ fn random_contractions() {
         }
     }
     seen.at_least("answer 0", 20_000);
-    (1..=9).for_each(|number| seen.at_least(&format!("answer {number}"), 250));
-    let names: Vec<_> = seen.0.keys().filter(|name| !name.starts_with("answer")).cloned().collect();
-    assert_eq!(names.len(), 45, "{names:?}");
-    names.iter().for_each(|name| seen.at_least(name, 250));
+    seen.each_at_least(55, 250);
 }
 
 fn note_factors(seen: &mut Seen, case: &Case) {
@@ -111,13 +92,9 @@ fn note_strides(seen: &mut Seen, case: &Case) {
 
 /// Does some label, in every tensor, go on where another ends? A tensor without a label has stride 0 there.
 fn labels_fold(case: &Case) -> bool {
-    let stride = |t: &Tensor, letter: u8| -> i64 {
-        let axes = t.letters.iter().zip(&t.strides).filter(|(its, _)| **its == letter);
-        axes.map(|(_, stride)| i64::from(*stride)).sum()
-    };
     let all: Vec<_> = labels(&case.tensors()).into_iter().filter(|(_, extent)| *extent > 1).collect();
     let goes_on = |(x, extent): (u8, u32), y: u8| {
-        x != y && case.tensors().iter().all(|t| stride(t, y) == i64::from(extent) * stride(t, x))
+        x != y && case.tensors().iter().all(|t| t.stride(y) == i64::from(extent) * t.stride(x))
     };
     all.iter().any(|x| all.iter().any(|y| goes_on(*x, y.0)))
 }

@@ -1,10 +1,14 @@
-//! The contractions of `data/vectors.json`, which `data/README.md` describes: all of them are runs of the plain call.
+//! The contractions of `data/vectors.json`, which `data/README.md` describes, by the plain call and by tile calls.
 
 mod common;
 
-use common::call::gives;
 use common::case::{Case, Tensor};
+use common::groups::{Group, Groups};
 use common::json::Json;
+use common::request::Request;
+use common::tile_call::{check_ask, check_run};
+use common::{call, cutting};
+use nezgrak::{OutputIndex, TileSizes};
 
 const VECTORS: &str = include_str!("data/vectors.json");
 
@@ -33,7 +37,9 @@ fn run(document: &str, count: usize) {
     assert_eq!(vectors.len(), count, "vectors of document {document}");
     for (name, vector) in vectors {
         println!("{name}");
-        gives(&case(vector), &vector.field("D_words").numbers::<u32>());
+        let (case, words) = (case(vector), vector.field("D_words").numbers::<u32>());
+        call::gives(&case, &words);
+        cutting::gives(&case, &words);
     }
 }
 
@@ -78,4 +84,39 @@ fn digests_agree() {
         assert_eq!(words.last(), Some(&vector.field("D_last").number()), "{name}");
         assert_eq!(words.iter().sum::<u64>() % (1 << 32), vector.field("D_sum_mod").number(), "{name}");
     }
+}
+
+/// The model has the groups of the file. With tiles of one count each, the engine shows the sizes: it accepts every
+/// output index below them and no other, and the total is their product.
+#[test]
+fn groups_and_sizes() {
+    for (name, vector) in Json::read(VECTORS).object() {
+        let case = case(vector);
+        let groups = Groups::of(&case);
+        let of_file = |group: &str| vector.field("groups").field(group).text().to_string();
+        let letters = |group: &Group| -> String { group.0.iter().map(|(letter, _)| char::from(*letter)).collect() };
+        for (group, found) in
+            [("batch", &groups.batch), ("row", &groups.row), ("col", &groups.column), ("depth", &groups.depth)]
+        {
+            assert_eq!(letters(found), of_file(group), "{group} of {name}");
+        }
+        let sizes = ["batch", "row", "col", "depth"].map(|group| vector.field("sizes").field(group).number());
+        shows_sizes(case, sizes);
+    }
+}
+
+fn shows_sizes(case: Case, [batch, row, column, depth]: [u64; 4]) {
+    let (done, total) = (0, batch * row * column * depth);
+    let (sizes, index) = (TileSizes { rows: 1, cols: 1, depth: 1 }, OutputIndex::new(batch - 1, row - 1, column - 1));
+    let r = Request { case, sizes, done, budget: 0, work: vec![0; 2], index };
+    let state_at = |index| check_ask(&Request { index, ..r.clone() });
+    assert_eq!(state_at(index), Ok(0));
+    assert_eq!(state_at(OutputIndex { batch, ..index }), Err(13));
+    assert_eq!(state_at(OutputIndex { row, ..index }), Err(13));
+    assert_eq!(state_at(OutputIndex { column, ..index }), Err(13));
+    let answer_at = |done| {
+        let ran = check_run(&Request { done, ..r.clone() });
+        (ran.answer, ran.complete)
+    };
+    assert_eq!([total - 1, total, total + 1].map(answer_at), [(0, 0), (0, 1), (12, 0)]);
 }

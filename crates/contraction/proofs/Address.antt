@@ -4,7 +4,7 @@ use mathlib.Core.Path.{_≡_, refl, ap, sym, _∙_}
 use mathlib.Core.Bool.{Bool, true, false, cond, true≢false}
 use mathlib.Core.List.{List, [], _∷_, map}
 use mathlib.Core.Logic.{_≢_}
-use Prim.Native.Nat.{ℕ, _+_, _*_, _-_, _/_, _%_}
+use Prim.Native.Nat.{ℕ, _+_, _*_, _/_, _%_}
 use native.Mathlib.Omega.{arith}
 use lib.IntN.{ℤ}
 use lib.Dec.{T, eqb, eqb→eq}
@@ -63,8 +63,12 @@ module _ (s : Shape) where
     pub where-distinct : Distinct (labelsWhere s p)
     where-distinct = map-distinct (keep p (labels (together s))) (keep-unique p (labels (together s)) (labels-unique (together s)))
 
+    -- what holds of each letter that passes holds of the labels
+    pub where-all : (P : Label → Type 0) → ((c : ℕ) → p c ≡ true → P (label s c)) → All P (labelsWhere s p)
+    where-all P f = all-map P (label s) (keep p (labels (together s))) (all-imp f (keep p (labels (together s))) (keep-passes p (labels (together s))))
+
     pub where-own : All (λ l. p (l .letter) ≡ true) (labelsWhere s p)
-    where-own = all-map (λ l. p (l .letter) ≡ true) (label s) (keep p (labels (together s))) (keep-passes p (labels (together s)))
+    where-own = where-all (λ l. p (l .letter) ≡ true) (λ c e. e)
 
   -- a letter that fails the test keeps its value
   pub where-clear : (p : ℕ → Bool) (n : ℕ) (ρ : ℕ → ℕ) (c : ℕ) → p c ≡ false → at (labelsWhere s p) n ρ c ≡ ρ c

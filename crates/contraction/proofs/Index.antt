@@ -3,14 +3,13 @@
 use mathlib.Core.Path.{_≡_, refl, sym, _∙_}
 use mathlib.Core.Bool.{Bool, true, false, cond, _||_, true≢false}
 use mathlib.Core.List.{List, [], _∷_, map}
-use mathlib.Core.Logic.{_≢_}
 use Prim.Native.Nat.{ℕ, _/_, _%_, _<_}
 use native.Mathlib.Nat.{mod-lt, div-add-mod}
 use native.Mathlib.Omega.{arith}
 use lib.Dec.{T, eqb}
 use Rattle.words.specs.Sums.{All}
 use Rattle.words.specs.Lists.{keep, member}
-use Rattle.words.proofs.Lists.{all-imp, all-map, all-both, all-member, distinct-members, member-keep, eqb-true, eqb-self, eqb-flip}
+use Rattle.words.proofs.Lists.{all-imp, all-map, all-unmap, all-both, all-member, distinct-members, member-keep, eqb-true, eqb-self, eqb-flip}
 use Rattle.layout.specs.Labels.{extentOf, labels}
 use Rattle.layout.specs.Questions.{extentsAgree}
 use Rattle.layout.specs.Bounds.{InRange}
@@ -23,11 +22,11 @@ use Rattle.contraction.proofs.Address.{Distinct}
 use Rattle.contraction.proofs.Agree.{together-all, agree}
 
 -- different counts have different indices
-pub at-injective : (g : List Label) (m n : ℕ) (ρ : ℕ → ℕ) → Distinct g → m < size g → n < size g
-    → All (λ l. at g m ρ (l .letter) ≡ at g n ρ (l .letter)) g → m ≡ n
-at-injective [] m n ρ d h k a = omega arith
-at-injective (l ∷ g) m n ρ d h k a =
-    let q : m / l .extent ≡ n / l .extent = at-injective g (m / l .extent) (n / l .extent) ρ (d .1) (div-below m (l .extent) (size g) h) (div-below n (l .extent) (size g) k)
+pub at-injective : (g : List Label) (m n : ℕ) (ρ σ : ℕ → ℕ) → Distinct g → m < size g → n < size g
+    → All (λ l. at g m ρ (l .letter) ≡ at g n σ (l .letter)) g → m ≡ n
+at-injective [] m n ρ σ d h k a = omega arith
+at-injective (l ∷ g) m n ρ σ d h k a =
+    let q : m / l .extent ≡ n / l .extent = at-injective g (m / l .extent) (n / l .extent) ρ σ (d .1) (div-below m (l .extent) (size g) h) (div-below n (l .extent) (size g) k)
     (all-imp (λ l′ p. rw (eqb-flip (l .letter) (l′ .letter) (p .0)) at (p .1)) g (all-both _ _ g (d .0) (a .1))) in
     let r : m % l .extent ≡ n % l .extent = rw (eqb-self (l .letter)) at (a .0) in
     sym (div-add-mod m (l .extent)) ∙ rw (q, r) (div-add-mod n (l .extent))
@@ -65,6 +64,12 @@ module _ (s : Shape) where
   pub where-lt : (p : ℕ → Bool) (n : ℕ) (ρ : ℕ → ℕ) (c : ℕ) → 0 < size (labelsWhere s p) → member c (labels (together s)) ≡ true → p c ≡ true
       → at (labelsWhere s p) n ρ c < label s c .extent
   where-lt p n ρ c h m e = at-lt (keep p (labels (together s))) n ρ c h (member-keep p c (labels (together s)) e m)
+
+  -- what holds of all labels that pass holds of each
+  pub where-at : (p : ℕ → Bool) (P : Label → Type 0) → All P (labelsWhere s p) → (c : ℕ) → member c (labels (together s)) ≡ true → p c ≡ true → P (label s c)
+  where-at p P a c m e =
+      all-member (λ c. P (label s c)) c (keep p (labels (together s))) (all-unmap P (label s) (keep p (labels (together s))) a)
+      (member-keep p c (labels (together s)) e m)
 
   pub group-same : (g : Group) (n : ℕ) (ρ σ : ℕ → ℕ) (c : ℕ) → member c (labels (together s)) ≡ true → groupOf s c ≡ g → at (group s g) n ρ c ≡ at (group s g) n σ c
   unfolding group inGroup

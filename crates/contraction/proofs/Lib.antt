@@ -17,6 +17,9 @@ pub mod Ready
 pub mod Refusal
 pub mod Result
 pub mod Sets
+pub mod SliceLengths
 pub mod Starred
 pub mod Values
 pub mod Wrapped
+pub mod GroupSizes
+pub mod Lacks

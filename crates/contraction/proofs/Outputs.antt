@@ -5,14 +5,9 @@ use mathlib.Core.Bool.{Bool, true, false}
 use mathlib.Core.Logic.{_≢_}
 use Prim.Native.Nat.{ℕ}
 use native.Mathlib.Omega.{arith}
-use Rattle.words.specs.Sums.{All}
-use Rattle.words.specs.Lists.{keep, member}
-use Rattle.words.proofs.Lists.{all-imp, all-map, all-unmap, all-member, keep-passes, member-keep}
-use Rattle.layout.specs.Labels.{labels}
-use Rattle.contraction.specs.Operands.{A, B, D, Shape, together}
-use Rattle.contraction.specs.Groups.{Label, label, letters, depth, groupBy, groupOf, number, outputs}
-use Rattle.contraction.proofs.Address.{Distinct, where-distinct}
-use Rattle.contraction.proofs.Index.{letter-in}
+use Rattle.words.specs.Lists.{member}
+use Rattle.contraction.specs.Operands.{A, B, D, Shape}
+use Rattle.contraction.specs.Groups.{letters, depth, groupBy, groupOf, number}
 
 module _ (s : Shape) where
   -- is it a letter of D?
@@ -40,18 +35,3 @@ module _ (s : Shape) where
       go : (b : Bool) → (b ≡ true → number (groupOf s c) ≢ number depth) → b ≡ false
       go true f = absurd (f refl e)
       go false f = refl
-
-  -- the labels of the outputs are those of D's letters
-  pub outputs-all : (P : Label → Type 0) → ((c : ℕ) → member c (letters s D) ≡ true → P (label s c)) → All P (outputs s)
-  unfolding outputs
-  outputs-all P f = all-map P (label s) (keep inD (labels (together s))) (all-imp f (keep inD (labels (together s))) (keep-passes inD (labels (together s))))
-
-  pub outputs-at : (P : Label → Type 0) → All P (outputs s) → (c : ℕ) → member c (letters s D) ≡ true → P (label s c)
-  unfolding outputs
-  outputs-at P a c m =
-      all-member (λ c. P (label s c)) c (keep inD (labels (together s))) (all-unmap P (label s) (keep inD (labels (together s))) a)
-      (member-keep inD c (labels (together s)) m (letter-in s D c m))
-
-  pub outputs-distinct : Distinct (outputs s)
-  unfolding outputs
-  outputs-distinct = where-distinct s inD

@@ -1,9 +1,9 @@
--- An index made of several lists of labels, each at a count of its own: in range, and its address the base and all offsets. A group of a contraction is
--- one such list, D's labels are another.
+-- An index made of several lists of labels, each at a count of its own: in range, its address the base and all offsets, and different for different counts.
+-- A group of a contraction is one such list, D's labels are another.
 -- Assumes nothing.
 use mathlib.Core.Path.{_≡_, refl, sym, _∙_}
 use mathlib.Core.Bool.{Bool, true, false, _||_, true≢false}
-use mathlib.Core.List.{List, [], _∷_}
+use mathlib.Core.List.{List, [], _∷_, map}
 use Prim.Native.Nat.{ℕ, _+_, _-_, _<_, zero-le}
 use native.Mathlib.Nat.{lt-of-le-of-lt}
 use native.Mathlib.Omega.{arith}
@@ -21,8 +21,8 @@ use Rattle.layout.proofs.Address.{along-zero}
 use Rattle.contraction.specs.Operands.{Operand, Shape, shape, together}
 use Rattle.contraction.specs.Groups.{label, letters, labelsWhere, size, offset, offsetIn}
 use Rattle.contraction.specs.Index.{at}
-use Rattle.contraction.proofs.Address.{where-clear, share, along-where, where-balanced}
-use Rattle.contraction.proofs.Index.{letter-in, where-lt, in-range}
+use Rattle.contraction.proofs.Address.{where-distinct, where-all, where-clear, share, along-where, where-balanced}
+use Rattle.contraction.proofs.Index.{at-injective, letter-in, where-lt, in-range}
 
 -- the labels whose letters pass a test, at a count
 pub record Part : Type 0 where
@@ -42,6 +42,20 @@ Separate (p ∷ ps) = ((c : ℕ) → p .test c ≡ true → All (Misses c) ps) �
 abbrev pub covered : ℕ → List Part → Bool
 covered c [] = false
 covered c (p ∷ ps) = p .test c || covered c ps
+
+-- a letter that all fail passes none
+missed : (ps : List Part) (c : ℕ) → All (Misses c) ps → covered c ps ≡ false
+missed [] c h = refl
+missed (p ∷ ps) c h = rw (h .0) (missed ps c (h .1))
+
+-- the parts of some tests, each at its count
+abbrev pub partsAt : {X : Type 0} → (X → ℕ → Bool) → (X → ℕ) → List X → List Part
+partsAt test n xs = map (λ x. record { test = test x; count = n x }) xs
+
+-- whatever the counts, each letter of a tensor passes just one of the tests, and other letters none
+pub record Splits (s : Shape) (o : Operand) {X : Type 0} (test : X → ℕ → Bool) (xs : List X) : Type 0 where
+  pub separate : (n : X → ℕ) → Separate (partsAt test n xs)
+  pub covers : (n : X → ℕ) (c : ℕ) → covered c (partsAt test n xs) ≡ member c (letters s o)
 
 module _ (s : Shape) where
   -- the index at all counts
@@ -90,6 +104,23 @@ module _ (s : Shape) where
   -- what the axes go up and down, and what the labels go, differ by as much
   pub parts-balanced : (o : Operand) (ps : List Part) → Separate ps → offsets up o ps + along down (s o) (atParts ps) ≡ offsets down o ps + along up (s o) (atParts ps)
   parts-balanced o ps h = rw (along-parts up o ps h, along-parts down o ps h) (balanced o ps)
+
+-- ---- different counts
+module _ (s : Shape) {X : Type 0} (test : X → ℕ → Bool) (m n : X → ℕ) where
+  -- counts of separate parts whose indices agree at every letter of the parts are the same
+  pub parts-injective : (xs : List X) → Separate (partsAt test m xs) → Below s (partsAt test m xs) → Below s (partsAt test n xs)
+      → ((c : ℕ) → covered c (partsAt test m xs) ≡ true → atParts s (partsAt test m xs) c ≡ atParts s (partsAt test n xs) c) → All (λ x. m x ≡ n x) xs
+  parts-injective [] h b d e = tt
+  parts-injective (x ∷ xs) h b d e = (
+    at-injective (labelsWhere s (test x)) (m x) (n x) (atParts s (partsAt test m xs)) (atParts s (partsAt test n xs)) (where-distinct s (test x)) (b .0) (d .0)
+        (where-all s (test x) (λ l. atParts s (partsAt test m (x ∷ xs)) (l .letter) ≡ atParts s (partsAt test n (x ∷ xs)) (l .letter)) (λ c k. e c (rw k))),
+    parts-injective xs (h .1) (b .1) (d .1) (λ c k. later c k (test x c) refl),
+  )
+    where
+      later : (c : ℕ) → covered c (partsAt test m xs) ≡ true → (t : Bool) → test x c ≡ t → atParts s (partsAt test m xs) c ≡ atParts s (partsAt test n xs) c
+      later c k true q = absurd (true≢false (sym k ∙ missed (partsAt test m xs) c (h .0 c q)))
+      later c k false q =
+          sym (where-clear s (test x) (m x) (atParts s (partsAt test m xs)) c q) ∙ e c (rw q k) ∙ where-clear s (test x) (n x) (atParts s (partsAt test n xs)) c q
 
 -- the address at all counts is the base and all offsets
 pub address-parts : (t : Operand → Layout) (o : Operand) (ps : List Part) → Separate ps

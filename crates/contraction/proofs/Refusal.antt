@@ -1,13 +1,13 @@
--- Laws of a list of questions: what its refusal says of each question, the refusal of two lists one behind the other, and a question that is
--- put to every tensor. A fourth tensor is one clause more in `ofEach-true` and in `three-ofEach`.
+-- Laws of a list of questions: what its refusal says of each question, the refusal of two lists one behind the other, a question that is
+-- put to every tensor, and an answer by the refusal. A fourth tensor is one clause more in `ofEach-true` and in `three-ofEach`.
 -- Assumes nothing.
-use mathlib.Core.Path.{_≡_, refl, sym, _∙_}
+use mathlib.Core.Path.{_≡_, refl, sym, ap, _∙_}
 use mathlib.Core.Bool.{Bool, true, false, not, cond}
 use mathlib.Core.List.{List, [], _∷_, _++_}
 use Prim.Native.Nat.{ℕ, _<_}
 use native.Mathlib.Omega.{arith}
-use lib.Dec.{T, ltb, ltb→lt}
-use borrow.Author.Tests.{not-true, not-false}
+use lib.Dec.{T, eqb, ltb, ltb→lt}
+use borrow.Author.Tests.{not-true, not-false, eq-eqb, ne-eqb}
 use Rattle.words.specs.Sums.{every, All}
 use Rattle.words.proofs.Lists.{T-true}
 use Rattle.words.proofs.Sums.{and-split, every-all}
@@ -95,3 +95,11 @@ none-left = record { number = refl }
 -- a question that code asks before others, its answer as the definition has it: one more question is one more step
 pub asked : (n : ℕ) {p q : Bool} {qs : List Question} {others r : ℕ} → p ≡ q → Refuses qs others → r ≡ cond p others n → Refuses (ask n q ∷ qs) r
 asked n e f g = record { number = rw (g, e, f .number) }
+
+-- a call whose questions refuse with the number n answers x where that is 0, else f n
+module _ {X : Type 0} (x : X) (f : ℕ → X) {n : ℕ} where
+  pub answers-no : {k : ℕ} → n ≡ k → (k ≡ 0 → ⊥) → f k ≡ cond (eqb n 0) x (f n)
+  answers-no e h = let no : n ≡ 0 → ⊥ = λ z. h (sym e ∙ z) in rw (ne-eqb n 0 no) (ap f (sym e))
+
+  pub answers-yes : n ≡ 0 → x ≡ cond (eqb n 0) x (f n)
+  answers-yes e = rw (eq-eqb n 0 e)

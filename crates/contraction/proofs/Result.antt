@@ -1,7 +1,8 @@
 -- The result of an accepted contraction holds each output's value at its place, and the old words elsewhere.
 -- Assumes nothing.
 use mathlib.Core.Path.{_≡_, refl, sym, _∙_}
-use mathlib.Core.List.{List}
+use mathlib.Core.Bool.{Bool}
+use mathlib.Core.List.{List, [], _∷_}
 use mathlib.Core.Logic.{_≢_}
 use Prim.Native.Nat.{ℕ, zero, suc, _+_, _*_, _<_}
 use native.Mathlib.Decide.{ℕ-discrete}
@@ -9,14 +10,14 @@ use native.Mathlib.Omega.{arith}
 use lib.Dec.{T}
 use lib.ListN.{length, getD, length-set}
 use lib.Seq.{getD-set-same, getD-set-other}
-use Rattle.words.specs.Sums.{sumTo}
+use Rattle.words.specs.Sums.{All, sumTo}
 use Rattle.words.specs.Words.{word}
 use Rattle.words.proofs.Lists.{all-member, member-distinct}
 use Rattle.layout.specs.declared.layout.Layout.{Layout}
 use Rattle.layout.specs.Layout.{axes, address}
 use Rattle.layout.specs.Labels.{labels}
 use Rattle.layout.specs.Questions.{inside, apart, extentsAgree}
-use Rattle.layout.specs.Bounds.{Inside}
+use Rattle.layout.specs.Bounds.{InRange, Inside}
 use Rattle.layout.proofs.Bounds.{inside-every}
 use Rattle.layout.proofs.StridesApart.{apart-injective}
 use Rattle.contraction.specs.declared.contraction.Contraction.{Contraction}
@@ -26,9 +27,9 @@ use Rattle.contraction.specs.Index.{at, outIndex}
 use Rattle.contraction.specs.Meaning.{Slices, shapeIn, entry, value, overwrite, result}
 use Rattle.contraction.proofs.Address.{group-distinct}
 use Rattle.contraction.proofs.Nested.{sumOver-is-sumTo}
-use Rattle.contraction.proofs.Index.{at-injective}
-use Rattle.contraction.proofs.Outputs.{outputs-all, outputs-distinct}
-use Rattle.contraction.proofs.Counts.{out-in-range}
+use Rattle.contraction.proofs.Parts.{Below, partsAt, Splits, atParts, parts-in-range, parts-injective}
+use Rattle.contraction.proofs.Outputs.{inD}
+use Rattle.contraction.proofs.Counts.{out-labels, out-in-range}
 
 module _ (place v : ℕ → ℕ) (w : List ℕ) where
   pub length-overwrite : (n : ℕ) → length (overwrite n place v w) ≡ length w
@@ -58,16 +59,32 @@ module _ (t : Operand → Layout) (n : ℕ) (same : T (extentsAgree (together (s
   pub output-inside : (m : ℕ) → m < size (outputs (shape t)) → Inside (t D) n (outIndex (shape t) m)
   output-inside m h = inside-every (t D) n fits (outIndex (shape t) m) (out-in-range (shape t) same m h)
 
+  -- different counts of lists that split D's labels address different words
+  pub parts-apart : T (apart (axes (t D))) → {X : Type 0} (test : X → ℕ → Bool) (xs : List X) → Splits (shape t) D test xs → (i k : X → ℕ)
+      → Below (shape t) (partsAt test i xs) → Below (shape t) (partsAt test k xs)
+      → address (t D) (atParts (shape t) (partsAt test i xs)) ≡ address (t D) (atParts (shape t) (partsAt test k xs)) → All (λ x. i x ≡ k x) xs
+  unfolding labels
+  parts-apart spread {X} test xs h i k p q e =
+      parts-injective (shape t) test i k xs (h .separate i) p q
+      (λ c m. all-member (λ c. index i c ≡ index k c) c (labels (axes (t D))) agree (member-distinct c (letters (shape t) D) (sym (h .covers i c) ∙ m)))
+    where
+      index : (X → ℕ) → ℕ → ℕ
+      index i = atParts (shape t) (partsAt test i xs)
+
+      reach : (i : X → ℕ) → Below (shape t) (partsAt test i xs) → InRange (axes (t D)) (index i)
+      reach i p = parts-in-range (shape t) same D (partsAt test i xs) p (λ c m. h .covers i c ∙ m)
+
+      agree : All (λ c. index i c ≡ index k c) (labels (axes (t D)))
+      agree =
+          apart-injective (t D) spread n (index i) (index k) (reach i p) (reach k q)
+          (inside-every (t D) n fits (index i) (reach i p)) (inside-every (t D) n fits (index k) (reach k q)) e
+
   -- different output counts address different words
   pub outputs-apart : T (apart (axes (t D))) → (i k : ℕ) → i < size (outputs (shape t)) → k < size (outputs (shape t))
       → address (t D) (outIndex (shape t) i) ≡ address (t D) (outIndex (shape t) k) → i ≡ k
-  unfolding labels outIndex
+  unfolding outputs outIndex
   outputs-apart spread i k p q e =
-      let agree = apart-injective (t D) spread n (outIndex (shape t) i) (outIndex (shape t) k)
-      (out-in-range (shape t) same i p) (out-in-range (shape t) same k q) (output-inside i p) (output-inside k q) e in
-      at-injective (outputs (shape t)) i k (λ c. 0) (outputs-distinct (shape t)) p q
-      (outputs-all (shape t) (λ l. outIndex (shape t) i (l .letter) ≡ outIndex (shape t) k (l .letter))
-      (λ c h. all-member (λ c. outIndex (shape t) i c ≡ outIndex (shape t) k c) c (labels (axes (t D))) agree (member-distinct c (letters (shape t) D) h)))
+      parts-apart spread (λ (u : Unit {0}). inD (shape t)) (tt ∷ []) (out-labels (shape t)) (λ u. i) (λ u. k) (p, tt) (q, tt) e .0
 
 module _ (c : Contraction) (w : Slices) where
   pub result-at : T (extentsAgree (together (shapeIn c))) → T (inside (axes (tensors c D)) (tensors c D .base) (length (w D))) → T (apart (axes (tensors c D)))

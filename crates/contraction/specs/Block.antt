@@ -1,12 +1,14 @@
 -- A block of offsets, as address words: even with a step when each is the one before plus the step, else scattered.
 -- A block of one or none is even with step 0. A count above 64 is read as 64.
 -- Assumes nothing.
-use Prim.Native.Nat.{ℕ, _+_, _-_, _^_}
+use Prim.Native.Nat.{ℕ, _+_, _-_, _^_, min}
 use mathlib.Core.Bool.{Bool, true, cond, _&&_}
 use mathlib.Core.List.{List, [], _∷_}
 use lib.Dec.{eqb}
-use lib.ListN.{take}
+use lib.ListN.{getD}
+use Rattle.words.specs.Lists.{tabulate}
 use Rattle.words.specs.Words.{word}
+use Rattle.layout.specs.Limits.{blockLimit}
 
 pub data Step : Type 0 where
   even : ℕ → Step
@@ -26,6 +28,10 @@ classify [] = even 0
 classify (x ∷ []) = even 0
 classify (x ∷ y ∷ ys) = cond (steps (stepFrom x y) x (y ∷ ys)) (even (stepFrom x y)) scattered
 
+-- of an array of offsets those in use: a count above the limit is read as the limit
+abbrev pub inUse : ℕ → List ℕ → List ℕ
+inUse count offsets = tabulate (min count blockLimit) (λ i. getD offsets i 0)
+
 -- the step of a block with that many of the offsets in use
 unfoldable pub blockStep : ℕ → List ℕ → Step
-blockStep count offsets = classify (take 64 (take count offsets))
+blockStep count offsets = classify (inUse count offsets)

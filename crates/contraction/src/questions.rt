@@ -22,7 +22,7 @@ pub struct Answers {
 }
 
 // A question before others: its number where it fails, else what they answer.
-fn ask(number: u32, passes: bool, others: u32) -> u32
+pub fn ask(number: u32, passes: bool, others: u32) -> u32
     ensures { λ r. ⌜ r ≡ cond passes others number ⌝ }
 {
     if passes { others } else { number }

@@ -33,6 +33,9 @@ colsLimit = 64
 abbrev pub depthLimit : ℕ  -- depth of a tile
 depthLimit = 128
 
+abbrev pub blockLimit : ℕ  -- offsets of a block of rows or columns
+blockLimit = 64
+
 abbrev pub limits : Limits
 limits =
     record {
@@ -46,4 +49,5 @@ limits =
       rows = rowsLimit;
       cols = colsLimit;
       depth = depthLimit;
+      block = blockLimit;
     }

@@ -10,9 +10,10 @@ pub struct Limits {
     pub slice: usize,
     pub product: u64,
     pub axes: usize,
-    pub rows: u32,
-    pub cols: u32,
-    pub depth: u32,
+    pub rows: usize,
+    pub cols: usize,
+    pub depth: usize,
+    pub block: usize,
 }
 
 impl Limits {
@@ -30,11 +31,13 @@ impl Limits {
     // The letters of three tensors: room for all axes, labels or letters of a contraction.
     pub const AXES: usize = 3 * Limits::RANK;
 
-    pub const ROWS: u32 = 64;
+    pub const ROWS: usize = 64;
 
-    pub const COLS: u32 = 64;
+    pub const COLS: usize = 64;
 
-    pub const DEPTH: u32 = 128;
+    pub const DEPTH: usize = 128;
+    // The offsets of a block of rows or columns.
+    pub const BLOCK: usize = 64;
 
     // The constants are those that the definitions name.
     pub fn all() -> Limits
@@ -51,6 +54,7 @@ impl Limits {
             rows: Limits::ROWS,
             cols: Limits::COLS,
             depth: Limits::DEPTH,
+            block: Limits::BLOCK,
         }
     }
 }

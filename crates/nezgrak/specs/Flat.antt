@@ -1,7 +1,8 @@
--- What the flat calls give.
+-- What the flat plain call gives; the sizes of a tile as flat parameters.
 -- Assumes nothing.
 use Prim.Native.Nat.{ℕ}
 use mathlib.Core.List.{List}
+use Rattle.tiles.specs.declared.grid.Sizes.{Sizes}
 use Rattle.plain.specs.Call.{Answer, done, refused, Call}
 
 -- an answer as a number: 0 where the call is done, else that of the question that refused
@@ -19,3 +20,6 @@ returned n words = record { number = n; words = words }
 
 abbrev pub flat : Call → Flat
 flat k = returned (number (k .answer)) (k .words)
+
+abbrev pub sizesOf : ℕ → ℕ → ℕ → Sizes
+sizesOf rows cols depth = record { rows = rows; cols = cols; depth = depth }

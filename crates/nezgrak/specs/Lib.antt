@@ -1,1 +1,3 @@
 pub mod Flat
+pub mod FlatTiles
+pub mod FlatState

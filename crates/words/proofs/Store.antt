@@ -56,6 +56,16 @@ unfolding each
 each-add m zero body D = ap (λ (k : ℕ). each k body D) (add-zero m)
 each-add m (suc n) body D = ap (λ (k : ℕ). each k body D) (add-suc m n) ∙ ap (body (m + n)) (each-add m n body D)
 
+-- stores keep the length
+pub length-put : (g : ℕ → ℕ) (x : ℕ) (D : List ℕ) → length (put g x D) ≡ length D
+unfolding put
+length-put g x D = length-set D x (g (getD D x 0))
+
+pub length-each : (n : ℕ) (body : ℕ → List ℕ → List ℕ) → ((k : ℕ) (D : List ℕ) → length (body k D) ≡ length D) → (D : List ℕ) → length (each n body D) ≡ length D
+unfolding each
+length-each zero body keep D = refl
+length-each (suc n) body keep D = keep n (each n body D) ∙ length-each n body keep D
+
 module _ {Ix : Type 0} (at : Ix → ℕ) (In : Ix → Type 0) (inj : (q r : Ix) → In q → In r → at q ≡ at r → q ≡ r) where
   -- an index that P does not have keeps its word
   pub keeps : {P : Ix → Type 0} {g : Ix → ℕ → ℕ} {D E : List ℕ} → Changes at In P g D E

@@ -1,6 +1,8 @@
-//! A sound contraction, and ways to make one question of it fail.
+//! A sound contraction and a sound request of tiles, and ways to make one question of them fail.
 
 use super::case::{Case, Tensor};
+use super::request::Request;
+use nezgrak::{OutputIndex, TileSizes};
 
 /// A(i,k) × B(k,j) into D(i,j), with no word to spare in any slice, so that each slip of an address is outside.
 pub fn sound() -> Case {
@@ -11,6 +13,41 @@ pub fn sound() -> Case {
         alpha: 3,
         beta: 2,
     }
+}
+
+/// Four tiles, of which the second and the third are to run, with no word of work to spare.
+pub fn sound_request() -> Request {
+    let sizes = TileSizes { rows: 1, cols: 2, depth: 2 };
+    let (work, index) = ((11..17).collect(), OutputIndex::new(0, 1, 1));
+    Request { case: sound(), sizes, done: 1, budget: 2, work, index }
+}
+
+/// A way to make a question fail.
+pub type Break = Box<dyn Fn(&mut Request)>;
+
+/// Every way to break the question of that number, each of which breaks no earlier one.
+pub fn ways(number: u32) -> Vec<Break> {
+    let tensor = |(which, edit): (usize, &'static Edit)| -> Break { Box::new(move |r| edit(r.case.tensor_mut(which))) };
+    match number {
+        10 => with_values(&[0, 65, u32::MAX], |r, rows| r.sizes.rows = rows)
+            .chain(with_values(&[0, 65, u32::MAX], |r, cols| r.sizes.cols = cols))
+            .chain(with_values(&[0, 129, u32::MAX], |r, depth| r.sizes.depth = depth))
+            .collect(),
+        11 => with_values(&[5, 0], |r, length| r.work.truncate(length)).collect(),
+        12 => with_values(&[5, 1 << 32, u64::MAX], |r, done| r.done = done).collect(),
+        13 => with_values(&[1, 1 << 32, u64::MAX], |r, batch| r.index.batch = batch)
+            .chain(with_values(&[2, 1 << 32, u64::MAX], |r, row| r.index.row = row))
+            .chain(with_values(&[2, 1 << 32, u64::MAX], |r, column| r.index.column = column))
+            .collect(),
+        _ => tensors_of(number)
+            .flat_map(|which| edits(number).iter().map(move |edit| (which, edit)))
+            .map(tensor)
+            .collect(),
+    }
+}
+
+fn with_values<T: Copy + 'static>(values: &'static [T], set: fn(&mut Request, T)) -> impl Iterator<Item = Break> {
+    values.iter().map(move |value| -> Break { Box::new(move |r| set(r, *value)) })
 }
 
 /// The tensors of which a question can be broken: A 0, B 1, D 2.

@@ -23,6 +23,12 @@ impl Tensor {
         Self::new("", &[], &[], 0, &[word])
     }
 
+    /// The stride of a label, 0 where the tensor lacks it.
+    pub fn stride(&self, label: u8) -> i64 {
+        let axes = self.letters.iter().zip(&self.strides).filter(|(letter, _)| **letter == label);
+        axes.map(|(_, stride)| i64::from(*stride)).sum()
+    }
+
     /// One axis more, after the others.
     pub fn push(&mut self, letter: u8, extent: u32, stride: i32) {
         self.letters.push(letter);
@@ -69,4 +75,12 @@ impl Case {
 pub struct Outcome {
     pub answer: u32,
     pub words: Vec<u32>,
+}
+
+/// Fails at the first word of a slice that is not as expected.
+pub fn same_words(name: &str, after: &impl fmt::Debug, found: &[u32], expected: &[u32]) {
+    assert_eq!(found.len(), expected.len(), "the words of {name} after {after:?}");
+    if let Some(place) = (0..found.len()).find(|&place| found[place] != expected[place]) {
+        panic!("word {place} of {name} is {} and not {} after {after:?}", found[place], expected[place]);
+    }
 }

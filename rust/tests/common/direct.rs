@@ -21,7 +21,7 @@ pub fn address(t: &Tensor, values: &Values) -> i64 {
     i64::from(t.base) + steps.sum::<i64>()
 }
 
-fn entry(t: &Tensor, values: &Values) -> u128 {
+pub fn entry(t: &Tensor, values: &Values) -> u128 {
     u128::from(t.words[address(t, values) as usize])
 }
 

@@ -18,6 +18,12 @@ impl Pattern for u32 {
     }
 }
 
+impl Pattern for u64 {
+    fn pattern(place: usize) -> Self {
+        u64::from(u32::pattern(place)) << 32 | u64::from(u32::pattern(place + 1))
+    }
+}
+
 impl Pattern for i32 {
     fn pattern(place: usize) -> Self {
         u32::pattern(place) as i32

@@ -1,16 +1,29 @@
-//! What the tests share: tensors with their words, a model of the whole call, and the call itself under guard.
+//! What the tests share: tensors with their words, models of the calls, and the calls themselves under guard.
 //!
-//! `questions` and `direct` are the model. They follow the rules word by word, by the slowest and plainest means, and
-//! share neither code nor shape with the engine: no groups, no folding, no counts.
+//! `questions` and `direct` are the model of the plain call; `groups` and `panels` add that of the tile calls. They
+//! follow the rules word by word, by the slowest and plainest means, and share neither code nor shape with the engine:
+//! the sum knows no groups, and where tiles need counts of groups nothing is folded, packed or run tile by tile.
 
 #![allow(dead_code)] // Each test file is a program of its own and uses a part of this.
 
 pub mod broken;
 pub mod call;
 pub mod case;
+pub mod cutting;
 pub mod direct;
+/// The archive's calls by their flat parameters, which show what the safe calls hide where a question refuses.
+#[path = "../../src/ffi.rs"]
+pub mod ffi;
+pub mod formula;
+pub mod groups;
 pub mod guard;
 pub mod json;
+pub mod lent;
+pub mod list;
 pub mod make;
+pub mod panels;
 pub mod questions;
+pub mod request;
 pub mod rng;
+pub mod seen;
+pub mod tile_call;

@@ -1,12 +1,15 @@
-//! The model's questions 1 to 9.
+//! The model's questions.
 
 use super::case::{Case, Tensor};
 use super::direct::{address, Values};
+use super::groups::{Cut, Groups};
+use super::request::{work_needed, Request};
+use nezgrak::TileSizes;
 use std::collections::BTreeMap;
 
 const LIMIT: i128 = 16_777_216;
 
-/// The number of the first question that fails, or 0.
+/// The number of the first question of the plain call that fails, or 0.
 pub fn first_no(case: &Case) -> u32 {
     let every = |asked: fn(&Tensor) -> bool| case.tensors().into_iter().all(asked);
     if !every(|t| t.letters.len() <= 8) {
@@ -30,6 +33,47 @@ pub fn first_no(case: &Case) -> u32 {
     } else {
         0
     }
+}
+
+/// That of a tile call: 1 to 12.
+pub fn first_no_of_tiles(r: &Request) -> u32 {
+    let number = first_no_to_ten(r);
+    if number != 0 {
+        number
+    } else if (r.work.len() as u128) < work_needed(r.sizes) {
+        11
+    } else if r.done > Cut::of(&Groups::of(&r.case), r.sizes).total() {
+        12
+    } else {
+        0
+    }
+}
+
+/// That of a state question: 1 to 10, 12 and 13.
+pub fn first_no_of_state(r: &Request) -> u32 {
+    let number = first_no_to_ten(r);
+    if number != 0 {
+        return number;
+    }
+    let cut = Cut::of(&Groups::of(&r.case), r.sizes);
+    if r.done > cut.total() {
+        12
+    } else if r.index.batch >= cut.batch || r.index.row >= cut.row || r.index.column >= cut.column {
+        13
+    } else {
+        0
+    }
+}
+
+fn first_no_to_ten(r: &Request) -> u32 {
+    match first_no(&r.case) {
+        0 if !sizes_fit(r.sizes) => 10,
+        number => number,
+    }
+}
+
+fn sizes_fit(sizes: TileSizes) -> bool {
+    (1..=64).contains(&sizes.rows) && (1..=64).contains(&sizes.cols) && (1..=128).contains(&sizes.depth)
 }
 
 fn within_limits(t: &Tensor) -> bool {

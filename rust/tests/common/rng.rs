@@ -19,6 +19,10 @@ impl Rng {
         (self.next() >> 32) as u32
     }
 
+    pub fn words(&mut self, count: usize) -> Vec<u32> {
+        (0..count).map(|_| self.word()).collect()
+    }
+
     /// 0 to n - 1.
     pub fn below(&mut self, n: usize) -> usize {
         (self.next() % n as u64) as usize

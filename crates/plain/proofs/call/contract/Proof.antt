@@ -20,11 +20,12 @@ use Rattle.contraction.specs.Offsets.{wordsIn}
 use Rattle.contraction.specs.Plan.{Planned}
 use Rattle.contraction.specs.Ready.{Foldable}
 use Rattle.contraction.proofs.Ready.{AllPassed, accepted-parts}
+use Rattle.contraction.proofs.SliceLengths.{lengthsOf, slice-lengths}
 use Rattle.contraction.proofs.Foldable.{group-foldable, outputs-foldable, fold-foldable}
 use Rattle.plain.specs.declared.walk.Walk.{Walk}
 use Rattle.plain.specs.Call.{done, gave}
 use Rattle.plain.specs.Walk.{places, over, filled, Walks, Clear}
-use Rattle.plain.proofs.Answered.{lengthsOf, slice-lengths, asked, call-refused, call-done}
+use Rattle.plain.proofs.Answered.{asked, call-refused, call-done}
 use Rattle.plain.proofs.Filled.{clear, filled-result}
 use Rattle.plain.proofs.call.contract.Statement.{statement}
 use Rattle.plain.proofs.call.contract.Tie as tie

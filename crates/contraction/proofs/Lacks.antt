@@ -1,0 +1,67 @@
+-- A tensor that has no label of a group has the same address at every count of that group: the index gives each letter the value
+-- that its own group's count gives it.
+-- Assumes nothing.
+use mathlib.Core.Path.{_≡_, refl, sym, ap, _∙_}
+use mathlib.Core.Bool.{Bool, true, false}
+use mathlib.Core.Logic.{_≢_}
+use Prim.Native.Nat.{ℕ}
+use native.Mathlib.Omega.{arith}
+use Rattle.words.specs.Lists.{member}
+use Rattle.words.proofs.Lists.{all-imp, covers}
+use Rattle.layout.specs.declared.layout.Layout.{Layout}
+use Rattle.layout.specs.Layout.{axes, address}
+use Rattle.layout.specs.Labels.{labels}
+use Rattle.layout.proofs.Address.{address-agree}
+use Rattle.contraction.specs.Operands.{Operand, A, B, D, Shape, shape, together}
+use Rattle.contraction.specs.Groups.{letters, Group, batch, row, column, depth, groupBy, groupOf, number, group}
+use Rattle.contraction.specs.Index.{at, index}
+use Rattle.contraction.proofs.Address.{clear}
+use Rattle.contraction.proofs.Index.{letter-in, group-same}
+
+-- the tensor has no label of the group
+pub record Lacks (s : Shape) (o : Operand) (g : Group) : Type 0 where
+  pub each : (c : ℕ) → member c (letters s o) ≡ true → number (groupOf s c) ≢ number g
+
+module _ (s : Shape) where
+  -- A lacks the column labels, and B the row labels
+  pub a-lacks : Lacks s A column
+  unfolding groupOf
+  a-lacks = record { each = λ c e. rw e (go (member c (letters s B)) (member c (letters s D))) }
+    where
+      go : (b d : Bool) → number (groupBy true b d) ≢ 2
+      go true true = omega arith
+      go false true = omega arith
+      go true false = omega arith
+      go false false = omega arith
+
+  pub b-lacks : Lacks s B row
+  unfolding groupOf
+  b-lacks = record { each = λ c e. rw e (go (member c (letters s A)) (member c (letters s D))) }
+    where
+      go : (a d : Bool) → number (groupBy a true d) ≢ 1
+      go true true = omega arith
+      go false true = omega arith
+      go true false = omega arith
+      go false false = omega arith
+
+  -- the index at a letter of a group, by that group's count alone
+  index-in : (n : Group → ℕ) (c : ℕ) → member c (labels (together s)) ≡ true → (g : Group) → groupOf s c ≡ g → index s n c ≡ at (group s g) (n g) (λ d. 0) c
+  unfolding index
+  index-in n c m depth e = group-same s depth (n depth) _ _ c m e
+  index-in n c m batch e = clear s depth (n depth) _ c (rw e (omega arith)) ∙ group-same s batch (n batch) _ _ c m e
+  index-in n c m row e = clear s depth (n depth) _ c (rw e (omega arith)) ∙ clear s batch (n batch) _ c (rw e (omega arith)) ∙ group-same s row (n row) _ _ c m e
+  index-in n c m column e =
+      clear s depth (n depth) _ c (rw e (omega arith)) ∙ clear s batch (n batch) _ c (rw e (omega arith)) ∙ clear s row (n row) _ c (rw e (omega arith))
+
+-- counts that differ only in a group that the tensor lacks
+pub address-lacks : (t : Operand → Layout) (o : Operand) (g : Group) → Lacks (shape t) o g → (n m : Group → ℕ) → ((h : Group) → number h ≢ number g → n h ≡ m h)
+    → address (t o) (index (shape t) n) ≡ address (t o) (index (shape t) m)
+address-lacks t o g l n m same = address-agree (t o) _ _ (all-imp (λ a. agrees (a .letter)) (axes (t o)) (covers (λ a. a .letter) (axes (t o))))
+  where
+    agrees : (c : ℕ) → member c (letters (shape t) o) ≡ true → index (shape t) n c ≡ index (shape t) m c
+    agrees c e =
+        let s = shape t in
+        let k = letter-in s o c e in
+        index-in s n c k (groupOf s c) refl
+        ∙ ap (λ (x : ℕ). at (group s (groupOf s c)) x (λ d. 0) c) (same (groupOf s c) (l .each c e))
+        ∙ sym (index-in s m c k (groupOf s c) refl)

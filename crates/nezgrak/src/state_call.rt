@@ -1,0 +1,87 @@
+ghost use mathlib.Core.Path.{_≡_};
+ghost use Rattle.layout.specs.Layout.{layoutOf};
+ghost use Rattle.contraction.specs.Operands.{three, contractionOf};
+ghost use Rattle.tiled.specs.Call.{stateAnswer, stateCall};
+ghost use Rattle.nezgrak.specs.Flat.{sizesOf};
+ghost use Rattle.nezgrak.specs.FlatState.{stateNumber, stateAfter, stateReturned, flatState};
+use super::made::contraction_of;
+use tiled::call::Found;
+use tiled::call::state as state_of;
+use tiles::grid::Sizes;
+
+// An answer as a number: 0 where it is a state.
+fn number_of(found: Found) -> u32
+    ensures { λ r. ⌜ r ≡ stateNumber (stateAnswer found) ⌝ }
+{
+    match found {
+        Found::Old => 0,
+        Found::Part => 0,
+        Found::Final => 0,
+        Found::Refused(n) => n,
+    }
+}
+
+// 0 old, 1 part, 2 final; as it was where the question was refused.
+fn state_after(found: Found, before: u32) -> u32
+    ensures { λ r. ⌜ r ≡ stateAfter (stateAnswer found) before ⌝ }
+{
+    match found {
+        Found::Old => 0,
+        Found::Part => 1,
+        Found::Final => 2,
+        Found::Refused(_) => before,
+    }
+}
+
+// The state of the output index of a batch, a row and a column count after `done` tiles.
+#[no_mangle]
+pub extern "C" fn nezgrak_state(
+    a_letters: &[u8],
+    a_extents: &[u32],
+    a_strides: &[i32],
+    a_base: u32,
+    a: &[u32],
+    b_letters: &[u8],
+    b_extents: &[u32],
+    b_strides: &[i32],
+    b_base: u32,
+    b: &[u32],
+    d_letters: &[u8],
+    d_extents: &[u32],
+    d_strides: &[i32],
+    d_base: u32,
+    d: &[u32],
+    alpha: u32,
+    beta: u32,
+    rows: u32,
+    cols: u32,
+    depth: u32,
+    done: u64,
+    batch: u64,
+    row: u64,
+    column: u64,
+    state: &mut u32,
+) -> u32
+    ensures { λ r. ⌜ stateReturned r (now (state .exit)) ≡ flatState (now (state .entry)) (stateCall (contractionOf (layoutOf (now («a_letters» .entry)) (now («a_extents» .entry)) (now («a_strides» .entry)) «a_base») (layoutOf (now («b_letters» .entry)) (now («b_extents» .entry)) (now («b_strides» .entry)) «b_base») (layoutOf (now («d_letters» .entry)) (now («d_extents» .entry)) (now («d_strides» .entry)) «d_base») alpha beta) (sizesOf rows cols depth) (three (now (a .entry)) (now (b .entry)) (now (d .entry))) done batch row column) ⌝ }
+{
+    let c = contraction_of(
+        a_letters,
+        a_extents,
+        a_strides,
+        a_base,
+        b_letters,
+        b_extents,
+        b_strides,
+        b_base,
+        d_letters,
+        d_extents,
+        d_strides,
+        d_base,
+        alpha,
+        beta,
+    );
+    let z = Sizes { rows, cols, depth };
+    let found = state_of(c, z, a, b, d, done, batch, row, column);
+    *state = state_after(found, *state);
+    number_of(found)
+}

@@ -1,0 +1,12 @@
+pub mod Reaches
+pub mod Agrees
+pub mod Soundness
+pub mod Standing
+pub mod Answered
+pub mod Demands
+pub mod Following
+pub mod Example
+pub mod PackedWork
+pub mod Accepted
+pub mod TileSizes
+pub mod TileSteps

@@ -1,0 +1,124 @@
+-- The work slice. A tile packs A's block at the front and B's in the part right behind it, and leaves the rest; each word of the two blocks is an entry
+-- at the tile's counts. In a run each tile packs over the blocks of the one before it, so only the last tile's blocks are left.
+-- Assumes nothing.
+use mathlib.Core.Path.{_≡_, refl, ap, sym, _∙_}
+use mathlib.Core.Bool.{Bool, cond}
+use mathlib.Core.List.{List, [], _++_, append-assoc, append-nil}
+use Prim.Native.Nat.{ℕ, zero, suc, _+_, _-_, _*_, _≤_, _<_}
+use native.Mathlib.Nat.{suc-ne-zero, le-refl}
+use native.Mathlib.Omega.{arith}
+use lib.ListN.{length, getD, take, drop, length-append, length-take, length-drop, drop-of-length-le, List·getD-append}
+use lib.Seq.{take-all, take-at, drop-at, drop-drop, getD-append-add}
+use borrow.Author.Tests.{ne-eqb}
+use borrow.Rule.Slice.PartMut.{midOf, putMid}
+use Rattle.words.specs.Lists.{tabulate}
+use Rattle.words.proofs.Tabulate.{length-tabulate, getD-tabulate}
+use Rattle.tiles.specs.Cut.{Cut, width, batchOf, columnOf, panelOf, rowOf}
+use Rattle.blocks.specs.Packed.{front}
+use Rattle.blocks.proofs.Fronts.{length-front, drop-front}
+use Rattle.blocks.proofs.Lanes.{lane-inside}
+use Rattle.blocks.proofs.Packing.{packed-at}
+use Rattle.tiled.specs.Work.{packedLeft, packedRight, packed, packedLast}
+use Rattle.tiles.proofs.Cuts.{width-le}
+
+-- a front, and then a front of the part behind it
+pub two-fronts : (a b : ℕ) (f g : ℕ → ℕ) (xs : List ℕ) {ys part : List ℕ} → ys ≡ front a f xs → part ≡ front b g (midOf a (length ys - a) ys)
+    → putMid a (length ys - a) ys part ≡ tabulate a f ++ (tabulate b g ++ drop (a + b) xs)
+unfolding front
+two-fronts a b f g xs {ys} {part} e q =
+    let k = length ys - a in
+    let whole : take k (drop a ys) ≡ drop a xs = take-all k (drop a ys) (omega (arith, length-drop a ys)) ∙ ap (drop a) e ∙ drop-front a f xs in
+    let none : drop k (drop a ys) ≡ [] = drop-of-length-le (drop a ys) {i = k} (omega (arith, length-drop a ys)) in
+    let first : take a ys ≡ tabulate a f = ap (take a) e ∙ take-at (tabulate a f) (drop a xs) a (length-tabulate a f) in
+    let second : part ≡ tabulate b g ++ drop (a + b) xs = q ∙ ap (λ (l : List ℕ). tabulate b g ++ drop b l) whole ∙ ap (λ (l : List ℕ). tabulate b g ++ l) (drop-drop b a xs) in
+    rw (first, second, none) (ap (λ (l : List ℕ). tabulate a f ++ l) (append-nil (tabulate b g ++ drop (a + b) xs)))
+
+-- the part behind a front has room for what the list has room for
+pub part-room : (a b : ℕ) (f : ℕ → ℕ) (xs : List ℕ) {ys : List ℕ} → ys ≡ front a f xs → a + b ≤ length xs → b ≤ length (midOf a (length ys - a) ys)
+part-room a b f xs {ys} e h =
+    let k : length ys ≡ length xs = ap length e ∙ length-front a f xs (omega arith) in
+    simp (length-take, length-drop) (omega arith)
+
+-- how many words a tile packs
+abbrev pub packs : Cut → ℕ
+packs G = G .rows * G .depth + G .cols * G .depth
+
+module _ (G : Cut) (left right : ℕ → ℕ → ℕ → ℕ) where
+  open Cut G using (M, N, K, rows, cols, depth)
+
+  pub length-packed : (n : ℕ) (work : List ℕ) → packs G ≤ length work → length (packed G left right n work) ≡ length work
+  unfolding packed
+  length-packed n work h = simp (length-append, length-tabulate, length-drop) (omega arith)
+
+  -- ---- the words of a packed tile
+
+  at-left : (n x : ℕ) (work : List ℕ) → x < rows * depth → getD (packed G left right n work) x 0 ≡ packedLeft G left right n x
+  unfolding packed
+  at-left n x work h =
+      let f = packedLeft G left right n in
+      List·getD-append (tabulate (rows * depth) f) _ 0 x (rw (length-tabulate (rows * depth) f) h) ∙ getD-tabulate (rows * depth) f x 0 h
+
+  at-right : (n x : ℕ) (work : List ℕ) → x < cols * depth → getD (packed G left right n work) (rows * depth + x) 0 ≡ packedRight G left right n x
+  unfolding packed
+  at-right n x work h =
+      let a = tabulate (rows * depth) (packedLeft G left right n) in
+      let f = packedRight G left right n in
+      let rest = tabulate (cols * depth) f ++ drop (packs G) work in
+      ap (λ (k : ℕ). getD (a ++ rest) (k + x) 0) (sym (length-tabulate (rows * depth) (packedLeft G left right n)))
+      ∙ getD-append-add a rest x 0
+      ∙ List·getD-append (tabulate (cols * depth) f) _ 0 x (rw (length-tabulate (cols * depth) f) h)
+      ∙ getD-tabulate (cols * depth) f x 0 h
+
+  -- A's word of row r and depth d, and B's of column c and depth d
+  pub left-word : (n r d : ℕ) (work : List ℕ) → r < width M rows (rowOf G n) → d < width K depth (panelOf G n)
+      → getD (packed G left right n work) (rows * d + r) 0 ≡ left (batchOf G n) (rowOf G n * rows + r) (panelOf G n * depth + d)
+  unfolding packedLeft
+  left-word n r d work h k =
+      let narrow = width-le M rows (rowOf G n) in
+      at-left n (rows * d + r) work (omega (arith, narrow, lane-inside rows k (width-le K depth (panelOf G n)) (le-refl (rows * depth))))
+      ∙ packed-at rows (width M rows (rowOf G n)) (width K depth (panelOf G n)) (λ r d. left (batchOf G n) (rowOf G n * rows + r) (panelOf G n * depth + d)) r d h narrow k
+
+  pub right-word : (n c d : ℕ) (work : List ℕ) → c < width N cols (columnOf G n) → d < width K depth (panelOf G n)
+      → getD (packed G left right n work) (rows * depth + c + cols * d) 0 ≡ right (batchOf G n) (columnOf G n * cols + c) (panelOf G n * depth + d)
+  unfolding packedRight
+  right-word n c d work h k =
+      let narrow = width-le N cols (columnOf G n) in
+      ap (λ (x : ℕ). getD (packed G left right n work) x 0) (omega arith)
+      ∙ at-right n (cols * d + c) work (omega (arith, narrow, lane-inside cols k (width-le K depth (panelOf G n)) (le-refl (cols * depth))))
+      ∙ packed-at cols (width N cols (columnOf G n)) (width K depth (panelOf G n)) (λ c d. right (batchOf G n) (columnOf G n * cols + c) (panelOf G n * depth + d)) c d h narrow k
+
+  -- ---- over a run of tiles
+
+  -- the rest is as it was
+  drop-packed : (n : ℕ) (work : List ℕ) → drop (packs G) (packed G left right n work) ≡ drop (packs G) work
+  unfolding packed
+  drop-packed n work =
+      let a = tabulate (rows * depth) (packedLeft G left right n) in
+      let b = tabulate (cols * depth) (packedRight G left right n) in
+      ap (drop (packs G)) (sym (append-assoc a b (drop (packs G) work)))
+      ∙ drop-at (a ++ b) (drop (packs G) work) (packs G) (simp (length-append, length-tabulate))
+
+  -- to pack over what was packed
+  packed-again : (m n : ℕ) (work : List ℕ) → packed G left right n (packed G left right m work) ≡ packed G left right n work
+  unfolding packed
+  packed-again m n work =
+      ap (λ (l : List ℕ). tabulate (rows * depth) (packedLeft G left right n) ++ (tabulate (cols * depth) (packedRight G left right n) ++ l)) (drop-packed m work)
+
+  -- no tile, and one tile more
+  pub packed-none : (t : ℕ) (work : List ℕ) → packedLast G left right t 0 work ≡ work
+  unfolding packedLast
+  packed-none t work = refl
+
+  packed-some : (t n : ℕ) (work : List ℕ) → packedLast G left right t (suc n) work ≡ packed G left right (t + n) work
+  unfolding packedLast
+  packed-some t n work =
+      ap (λ (x : Bool). cond x work (packed G left right (t + suc n - 1) work)) (ne-eqb (suc n) 0 (suc-ne-zero n))
+      ∙ ap (λ (k : ℕ). packed G left right k work) (omega arith)
+
+  pub packed-next : (t n : ℕ) (work : List ℕ) → packed G left right (t + n) (packedLast G left right t n work) ≡ packedLast G left right t (suc n) work
+  packed-next t zero work = rw (packed-none t work) (sym (packed-some t zero work))
+  packed-next t (suc n) work = rw (packed-some t n work, packed-again (t + n) (t + suc n) work) (sym (packed-some t (suc n) work))
+
+  pub length-last : (t n : ℕ) (work : List ℕ) → packs G ≤ length work → length (packedLast G left right t n work) ≡ length work
+  length-last t zero work h = ap length (packed-none t work)
+  length-last t (suc n) work h = ap length (packed-some t n work) ∙ length-packed (t + n) work h

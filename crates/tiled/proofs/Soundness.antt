@@ -1,0 +1,122 @@
+-- The setting of an accepted contraction is sound: its output indices address different words, all inside; and what all its tiles make is the plain result.
+-- The batch, row and column labels split D's: so question 9 tells their counts from the address, and each index in range of D has counts.
+-- Assumes nothing.
+use mathlib.Core.Path.{_≡_, sym, ap, _∙_}
+use mathlib.Core.Bool.{true}
+use mathlib.Core.List.{List}
+use mathlib.Core.Logic.{_≢_}
+use Prim.Native.Nat.{ℕ, _*_, _<_}
+use native.Mathlib.Nat.{add-comm}
+use lib.ListN.{length, getD}
+use Rattle.words.specs.Sums.{sumTo}
+use Rattle.words.specs.Lists.{member}
+use Rattle.words.specs.Words.{word}
+use Rattle.layout.specs.Layout.{axes, address}
+use Rattle.layout.specs.Bounds.{InRange}
+use Rattle.layout.proofs.Bounds.{inside-every}
+use Rattle.contraction.specs.declared.contraction.Contraction.{Contraction}
+use Rattle.contraction.specs.Operands.{A, B, D, tensors}
+use Rattle.contraction.specs.Groups.{letters, batch, row, column, inGroup, group}
+use Rattle.contraction.specs.Index.{index}
+use Rattle.contraction.specs.Meaning.{Slices, shapeIn, entry, result}
+use Rattle.contraction.proofs.Counts.{outGroups, out-groups, index-outputs}
+use Rattle.contraction.proofs.Parts.{Part, Below, covered, partsAt, atParts, parts-in-range}
+use Rattle.contraction.proofs.Onto.{parts-onto}
+use Rattle.contraction.proofs.Ready.{AllPassed}
+use Rattle.contraction.proofs.Result.{parts-apart, length-result, term, value-counts}
+use Rattle.contraction.proofs.Values.{result-in-range, result-elsewhere}
+use Rattle.tiles.specs.declared.grid.Sizes.{Sizes}
+use Rattle.tiles.specs.Cut.{Cut, total}
+use Rattle.tiles.specs.Setting.{Sound, closed, direct}
+use Rattle.tiles.proofs.Closed.{shows-render, closed-total}
+use Rattle.tiled.specs.Setting.{counts, cutOf, addressAt, entryAt, setting}
+use Rattle.tiled.specs.Questions.{sizesFit}
+use Rattle.tiled.proofs.TileSizes.{sizes-limited}
+
+-- the setting reads A and B only
+pub setting-same : (c : Contraction) (z : Sizes) (v w : Slices) → v A ≡ w A → v B ≡ w B → setting c z v ≡ setting c z w
+unfolding setting entryAt entry
+setting-same c z v w e f = λ x. record {
+  cut = cutOf c z;
+  addr = addressAt c;
+  term = λ h i j k.
+      getD (e x) (address (tensors c A) (index (shapeIn c) (counts h i j k))) 0 * getD (f x) (address (tensors c B) (index (shapeIn c) (counts h i j k))) 0;
+  alpha = c .alpha;
+  start = λ h i j old. c .beta * old;
+}
+
+module _ (c : Contraction) where
+  -- the batch, row and column labels at their counts, and the index of these
+  parts : ℕ → ℕ → ℕ → List Part
+  parts h i j = partsAt (inGroup (shapeIn c)) (counts h i j 0) outGroups
+
+  at : ℕ → ℕ → ℕ → ℕ → ℕ
+  at h i j = atParts (shapeIn c) (parts h i j)
+
+  -- it addresses what the four counts address
+  address-at : (h i j : ℕ) → addressAt c h i j ≡ address (tensors c D) (at h i j)
+  unfolding addressAt at parts
+  address-at h i j = index-outputs (tensors c) (counts h i j 0)
+
+  parts-cover : (h i j x : ℕ) → member x (letters (shapeIn c) D) ≡ true → covered x (parts h i j) ≡ true
+  unfolding parts
+  parts-cover h i j x e = out-groups (shapeIn c) .covers (counts h i j 0) x ∙ e
+
+module _ (c : Contraction) (z : Sizes) (w : Slices) (ok : AllPassed (tensors c) (λ o. length (w o))) (fit : sizesFit z ≡ true) where
+  open Cut (cutOf c z) using (H, M, N, K)
+
+  module _ (h i j : ℕ) (bh : h < H) (bi : i < M) (bj : j < N) where
+    parts-below : Below (shapeIn c) (parts c h i j)
+    unfolding group parts
+    parts-below = (bh, (bi, (bj, tt)))
+
+    at-in-range : InRange (axes (tensors c D)) (at c h i j)
+    unfolding at
+    at-in-range = parts-in-range (shapeIn c) (rw (ok .agree) tt) D (parts c h i j) parts-below (parts-cover c h i j)
+
+    inside : addressAt c h i j < length (w D)
+    inside = rw (address-at c h i j) (inside-every (tensors c D) (length (w D)) (rw (ok .within D) tt) (at c h i j) at-in-range .1)
+
+  apart : (h i j h′ i′ j′ : ℕ) → h < H → i < M → j < N → h′ < H → i′ < M → j′ < N
+      → addressAt c h i j ≡ addressAt c h′ i′ j′ → (h ≡ h′) × (i ≡ i′) × (j ≡ j′)
+  unfolding at parts
+  apart h i j h′ i′ j′ bh bi bj bh′ bi′ bj′ e =
+      let r = parts-apart (tensors c) (length (w D)) (rw (ok .agree) tt) (rw (ok .within D) tt) (rw (ok .distinct) tt)
+      (inGroup (shapeIn c)) outGroups (out-groups (shapeIn c)) (counts h i j 0) (counts h′ i′ j′ 0) (parts-below h i j bh bi bj) (parts-below h′ i′ j′ bh′ bi′ bj′)
+      (sym (address-at c h i j) ∙ e ∙ address-at c h′ i′ j′) in
+      (r .0, r .1 .0, r .1 .1 .0)
+
+  pub sound : Sound (setting c z w) (length (w D))
+  unfolding setting
+  sound =
+      let sizes = sizes-limited z fit in
+      record { rows-pos = sizes .rows .0; cols-pos = sizes .cols .0; depth-pos = sizes .depth .0; inside = inside; apart = apart }
+
+  -- the plain result has the direct sum at each output index
+  result-hit : (h i j : ℕ) → h < H → i < M → j < N
+      → getD (result c w) (addressAt c h i j) 0 ≡ direct (setting c z w) h i j (getD (w D) (addressAt c h i j) 0)
+  unfolding setting direct entryAt entry index group at parts
+  result-hit h i j bh bi bj =
+      rw (address-at c h i j)
+      (result-in-range c w ok (at c h i j) (at-in-range h i j bh bi bj)
+      ∙ value-counts c w (at c h i j)
+      ∙ ap (word 32) (add-comm (c .alpha * sumTo K (term c w (at c h i j))) (c .beta * entry c w D (at c h i j))))
+
+  -- and its old words elsewhere
+  result-miss : (x : ℕ) → ((h i j : ℕ) → h < H → i < M → j < N → addressAt c h i j ≢ x) → getD (result c w) x 0 ≡ getD (w D) x 0
+  unfolding group at parts
+  result-miss x off =
+      result-elsewhere c w ok x
+      (λ ρ r e.
+      let n = parts-onto (tensors c) (rw (ok .agree) tt) D (inGroup (shapeIn c)) outGroups (out-groups (shapeIn c)) ρ r in
+      off (n .0 batch) (n .0 row) (n .0 column) (n .1 .0) (n .1 .1 .0) (n .1 .1 .1 .0) (address-at c (n .0 batch) (n .0 row) (n .0 column) ∙ n .2 ∙ e))
+
+  pub closed-result : closed (setting c z w) (total (cutOf c z)) (w D) ≡ result c w
+  unfolding setting
+  closed-result =
+      closed-total (setting c z w) (w D) sound
+      ∙ sym (shows-render (setting c z w) (w D) sound (direct (setting c z w)) (record {
+        len = length-result c w;
+        hit = λ q b p. result-hit (q .0) (q .1) (q .2) (b .0) (b .1) (b .2);
+        miss = λ x off. result-miss x (λ h i j bh bi bj. off (h, i, j) (bh, bi, bj) tt);
+      }))

@@ -1,0 +1,192 @@
+-- `run` meets its contract: where a question refuses, nothing was written; where all pass, the grid's cut is the contraction's, and the tiles
+-- that run leave what its setting says.
+-- Assumes nothing.
+use mathlib.Core.Path.{_≡_, sym, ap, _∙_}
+use mathlib.Core.Logic.{⊎-elim}
+use mathlib.Core.List.{List, _++_}
+use Prim.Native.Nat.{ℕ, _+_, _-_, _*_, _≤_, min}
+use native.Mathlib.Nat.{mul-comm}
+use native.Mathlib.Omega.{arith}
+use lib.Dec.{eqb}
+use lib.ListN.{length}
+use borrow.Author.Needs.{needs}
+use borrow.Author.Tests.{leb-true}
+use denote.Ref.{now}
+use Rattle.words.proofs.Tabulate.{length-tabulate}
+use Rattle.contraction.specs.declared.contraction.Contraction.{Contraction}
+use Rattle.contraction.specs.declared.plan.Plan.{Plan}
+use Rattle.contraction.specs.Operands.{three, tensors, lengths}
+use Rattle.contraction.specs.Questions.{refusal, layoutQuestions}
+use Rattle.contraction.specs.Plan.{Planned}
+use Rattle.contraction.proofs.Refusal.{passed}
+use Rattle.contraction.proofs.SliceLengths.{lengthsOf}
+use Rattle.tiles.specs.declared.grid.Sizes.{Sizes}
+use Rattle.tiles.specs.declared.grid.Grid.{Grid}
+use Rattle.tiles.specs.Cut.{Cut, total}
+use Rattle.tiles.specs.Grid.{cutIn}
+use Rattle.tiles.specs.Setting.{walk, tilesFrom}
+use Rattle.tiled.specs.Setting.{cutOf, setting}
+use Rattle.tiled.specs.Work.{packedLast, workAfter}
+use Rattle.tiled.specs.Questions.{sizeQuestion, roomQuestion, doneQuestion}
+use Rattle.tiled.specs.Planned.{GridOf, Clear, leftIn, rightIn, planSetting}
+use Rattle.tiled.specs.Call.{ran, refused, gave, ranCall, tileCall}
+use Rattle.tiled.proofs.Answered.{asked, accepted, tile-early, tile-late, tile-ran}
+use Rattle.tiled.proofs.Accepted.{none-refused, plan-asks, grid-asks, grid-cut}
+use Rattle.tiled.proofs.Reaches.{clear}
+use Rattle.tiled.proofs.Agrees.{walk-agrees, work-agrees}
+use Rattle.tiled.proofs.call.run.Statement.{statement}
+use Rattle.tiled.proofs.call.run.Tie as tie
+
+tiles-counted : (t n : ℕ) → length (tilesFrom t n) ≡ n
+unfolding tilesFrom
+tiles-counted t n = length-tabulate n (λ k. t + k)
+
+-- n is the number that `accept_no` answered, k that of `tile_no`
+module _ (c : Contraction) (z : Sizes) (a b d : List ℕ) {n : ℕ} (e : n ≡ refusal (layoutQuestions (tensors c) (lengths (lengthsOf a b d)) ++ sizeQuestion z)) (y : n ≡ 0)
+    (p : Plan) (q : Planned (tensors c) p) (g : Grid) (o : GridOf p g × (g .sizes ≡ z)) (work : List ℕ) (t : ℕ)
+    {k : ℕ} (r : k ≡ refusal (roomQuestion (g .sizes) (length work) ++ doneQuestion (cutIn g) t)) where
+  cut : cutIn g ≡ cutOf c z
+  cut = grid-cut c z a b d e y p q g o
+
+  -- questions 11 and 12 are asked of the grid's sizes and cut, which are the contraction's
+  late : k ≡ refusal (roomQuestion z (length work) ++ doneQuestion (cutOf c z) t)
+  late =
+      r ∙ ap (λ (s : Sizes). refusal (roomQuestion s (length work) ++ doneQuestion (cutIn g) t)) (o .1)
+      ∙ ap (λ (G : Cut). refusal (roomQuestion z (length work) ++ doneQuestion G t)) cut
+
+  late-no : (budget : ℕ) → (k ≡ 0 → ⊥) → gave (refused k t) d work ≡ tileCall c z (three a b d) work t budget
+  late-no budget = tile-late c z (three a b d) work t budget (none-refused c z a b d e y) late
+
+  -- where they pass
+  module _ (x : k ≡ 0) where
+    room-and-count : (g .sizes .rows * g .sizes .depth + g .sizes .depth * g .sizes .cols ≤ length work) × (t ≤ total (cutIn g))
+    unfolding roomQuestion doneQuestion
+    room-and-count =
+        let all = passed (roomQuestion (g .sizes) (length work) ++ doneQuestion (cutIn g) t) tt (sym r ∙ x) in
+        (leb-true _ _ (all .0), leb-true _ _ (all .1 .0))
+
+    t-below : t ≤ g .total
+    t-below = rw (o .0 .counted .total) (room-and-count .1)
+
+    -- what `run_tiles` asks for a count of tiles, and what it leaves
+    module _ (budget count : ℕ) (m : count ≡ min budget (g .total - t)) where
+      in-total : t + count ≤ total (cutIn g)
+      in-total = omega (arith, m, t-below, o .0 .counted .total)
+
+      run-asks : GridOf p g × (t + count ≤ total (cutIn g)) × Clear p (cutIn g) (length a) (length b) (length d)
+          × (g .sizes .rows * g .sizes .depth + g .sizes .cols * g .sizes .depth ≤ length work)
+      run-asks = (
+        o .0,
+        in-total,
+        rw cut (clear c (λ o. length (three a b d o)) (accepted c z (three a b d) (none-refused c z a b d e y) .0) p q z),
+        rw (mul-comm (g .sizes .cols) (g .sizes .depth)) (room-and-count .0),
+      )
+
+      all-ran : {r : ℕ} {d′ work′ : List ℕ} → r ≡ t + length (tilesFrom t count)
+          → d′ ≡ walk (planSetting p (cutIn g) (c .alpha) (c .beta) a b) (tilesFrom t count) d
+          → work′ ≡ packedLast (cutIn g) (leftIn p a) (rightIn p b) t count work
+          → gave (ran r (eqb r (g .total))) d′ work′ ≡ tileCall c z (three a b d) work t budget
+      unfolding ranCall
+      all-ran {r} {d′} {work′} er ed ew =
+          let w = three a b d in
+          let ten = none-refused c z a b d e y in
+          let ok = accepted c z w ten .0 in
+          let below : t + count ≤ total (cutOf c z) = rw (sym cut) in-total in
+          let whole : g .total ≡ total (cutOf c z) = o .0 .counted .total ∙ ap total cut in
+          let done : r ≡ t + count = er ∙ ap (λ (i : ℕ). t + i) (tiles-counted t count) in
+          let words : d′ ≡ walk (setting c z w) (tilesFrom t count) d =
+          ed ∙ ap (λ (G : Cut). walk (planSetting p G (c .alpha) (c .beta) a b) (tilesFrom t count) d) cut ∙ walk-agrees c z w ok p q t count below d in
+          let packs : work′ ≡ workAfter c z w t count work =
+          ew ∙ ap (λ (G : Cut). packedLast G (leftIn p a) (rightIn p b) t count work) cut ∙ work-agrees c z w ok p q t count below work in
+          rw (done, words, packs, m, whole) (tile-ran c z w work t budget ten late x)
+
+accept-no-requires : tie.Need-accept-no-requires
+accept-no-requires c κs = search needs
+
+returns : tie.Need-returns
+returns c =
+    let x = c .before .before .before .before .before .before .args in
+    tile-early (x .c) (x .z) (three (now (x .a)) (now (x .b)) (now (x .d))) (now (x .work)) (x .done) (x .budget)
+    (asked (x .c) (x .z) (now (x .a)) (now (x .b)) (now (x .d)) (c .before .accept-no .ensures)) (c .if1 .taken)
+
+plan-of-requires : tie.Need-plan-of-requires
+plan-of-requires c κs =
+    let x = c .before .before .before .before .before .before .args in
+    plan-asks (x .c) (x .z) (now (x .a)) (now (x .b)) (now (x .d)) (c .before .accept-no .ensures) (c .if1 .left)
+
+grid-of-requires : tie.Need-grid-of-requires
+grid-of-requires c κs =
+    let ten = c .before in
+    let x = ten .before .before .before .before .before .before .args in
+    grid-asks (x .c) (x .z) (now (x .a)) (now (x .b)) (now (x .d)) (ten .before .accept-no .ensures) (ten .if1 .left) (c .plan-of .result) (c .plan-of .ensures)
+
+tile-no-requires : tie.Need-tile-no-requires
+tile-no-requires c κs = search needs
+
+returns-2 : tie.Need-returns-2
+returns-2 c =
+    let grid = c .before .before in
+    let plan = grid .before in
+    let ten = plan .before in
+    let x = ten .before .before .before .before .before .before .args in
+    late-no (x .c) (x .z) (now (x .a)) (now (x .b)) (now (x .d)) (ten .before .accept-no .ensures) (ten .if1 .left)
+    (plan .plan-of .result) (plan .plan-of .ensures) (grid .grid-of .result) (grid .grid-of .ensures) (now (x .work)) (x .done)
+    (c .before .tile-no .ensures) (x .budget) (c .if2 .taken)
+
+sub-left : tie.Need-sub-left
+sub-left c =
+    let grid = c .before .before in
+    let plan = grid .before in
+    let ten = plan .before in
+    let x = ten .before .before .before .before .before .before .args in
+    t-below (x .c) (x .z) (now (x .a)) (now (x .b)) (now (x .d)) (ten .before .accept-no .ensures) (ten .if1 .left)
+    (plan .plan-of .result) (plan .plan-of .ensures) (grid .grid-of .result) (grid .grid-of .ensures) (now (x .work)) (x .done)
+    (c .before .tile-no .ensures) (c .if2 .left)
+
+run-tiles-requires : tie.Need-run-tiles-requires
+run-tiles-requires c κs =
+    let joined = c .before .before in
+    let all = joined .before in
+    let grid = all .before .before in
+    let plan = grid .before in
+    let ten = plan .before in
+    let x = ten .before .before .before .before .before .before .args in
+    run-asks (x .c) (x .z) (now (x .a)) (now (x .b)) (now (x .d)) (ten .before .accept-no .ensures) (ten .if1 .left)
+    (plan .plan-of .result) (plan .plan-of .ensures) (grid .grid-of .result) (grid .grid-of .ensures) (now (x .work)) (x .done)
+    (all .before .tile-no .ensures) (all .if2 .left) (x .budget) (joined .if3 .count) (⊎-elim (λ w. omega arith) (λ w. omega arith) (joined .if3 .came))
+
+same-length : tie.Need-same-length
+same-length c = search needs
+
+same-length-2 : tie.Need-same-length-2
+same-length-2 c = search needs
+
+returns-3 : tie.Need-returns-3
+returns-3 c =
+    let tiles = c .before .before .before .before in
+    let joined = tiles .before .before .before in
+    let all = joined .before in
+    let grid = all .before .before in
+    let plan = grid .before in
+    let ten = plan .before in
+    let x = ten .before .before .before .before .before .before .args in
+    all-ran (x .c) (x .z) (now (x .a)) (now (x .b)) (now (x .d)) (ten .before .accept-no .ensures) (ten .if1 .left)
+    (plan .plan-of .result) (plan .plan-of .ensures) (grid .grid-of .result) (grid .grid-of .ensures) (now (x .work)) (x .done)
+    (all .before .tile-no .ensures) (all .if2 .left) (x .budget) (joined .if3 .count) (⊎-elim (λ w. omega arith) (λ w. omega arith) (joined .if3 .came))
+    (tiles .run-tiles .ensures .0) (tiles .run-tiles .ensures .1) (tiles .run-tiles .ensures .2)
+
+pub run-spec : {M : Type 1} → statement M
+run-spec =
+    tie.close
+    (tie.spec
+    accept-no-requires
+    returns
+    plan-of-requires
+    grid-of-requires
+    tile-no-requires
+    returns-2
+    sub-left
+    run-tiles-requires
+    same-length
+    same-length-2
+    returns-3)

@@ -1,0 +1,130 @@
+-- `state` meets its contract: where a question refuses, its number is the call's; where all pass, the grid's cut is the contraction's, and so is
+-- the state.
+-- Assumes nothing.
+use mathlib.Core.Path.{_≡_, sym, ap, _∙_}
+use mathlib.Core.Bool.{_&&_}
+use mathlib.Core.List.{List, _++_}
+use Prim.Native.Nat.{ℕ, _<_}
+use lib.Dec.{ltb, ltb→lt}
+use borrow.Author.Needs.{needs}
+use denote.Ref.{now}
+use Rattle.words.proofs.Sums.{and-split}
+use Rattle.contraction.specs.declared.contraction.Contraction.{Contraction}
+use Rattle.contraction.specs.declared.plan.Plan.{Plan}
+use Rattle.contraction.specs.Operands.{three, tensors, lengths}
+use Rattle.contraction.specs.Questions.{refusal, layoutQuestions}
+use Rattle.contraction.specs.Plan.{Planned}
+use Rattle.contraction.proofs.Refusal.{passed}
+use Rattle.contraction.proofs.SliceLengths.{lengthsOf}
+use Rattle.tiles.specs.declared.grid.Sizes.{Sizes}
+use Rattle.tiles.specs.declared.grid.Grid.{Grid}
+use Rattle.tiles.specs.Cut.{Cut}
+use Rattle.tiles.specs.Grid.{cutIn}
+use Rattle.tiles.specs.Progress.{State, stateAt}
+use Rattle.tiled.specs.Setting.{cutOf}
+use Rattle.tiled.specs.Questions.{sizeQuestion, doneQuestion, indexQuestion}
+use Rattle.tiled.specs.Planned.{GridOf}
+use Rattle.tiled.specs.Call.{is, unasked, stateCall}
+use Rattle.tiled.proofs.Answered.{asked, state-early, state-late, state-found}
+use Rattle.tiled.proofs.Accepted.{none-refused, plan-asks, grid-asks, grid-cut}
+use Rattle.tiled.proofs.call.state.Statement.{statement}
+use Rattle.tiled.proofs.call.state.Tie as tie
+
+-- n is the number that `accept_no` answered; questions 12 and 13 are asked of the grid's cut, which is the contraction's
+module _ (c : Contraction) (z : Sizes) (a b d : List ℕ) {n : ℕ} (e : n ≡ refusal (layoutQuestions (tensors c) (lengths (lengthsOf a b d)) ++ sizeQuestion z)) (y : n ≡ 0)
+    (p : Plan) (q : Planned (tensors c) p) (g : Grid) (o : GridOf p g × (g .sizes ≡ z)) (t h i j : ℕ)
+    {k : ℕ} (r : k ≡ refusal (doneQuestion (cutIn g) t ++ indexQuestion (cutIn g) h i j)) where
+  cut : cutIn g ≡ cutOf c z
+  cut = grid-cut c z a b d e y p q g o
+
+  late : k ≡ refusal (doneQuestion (cutOf c z) t ++ indexQuestion (cutOf c z) h i j)
+  late = r ∙ ap (λ (G : Cut). refusal (doneQuestion G t ++ indexQuestion G h i j)) cut
+
+  late-no : (k ≡ 0 → ⊥) → unasked k ≡ stateCall c z (three a b d) t h i j
+  late-no = state-late c z (three a b d) t h i j (none-refused c z a b d e y) late
+
+  -- what the grid's `state` asks
+  index-inside : k ≡ 0 → (h < cutIn g .H) × (i < cutIn g .M) × (j < cutIn g .N)
+  unfolding doneQuestion indexQuestion
+  index-inside x =
+      let G = cutIn g in
+      let all = passed (doneQuestion G t ++ indexQuestion G h i j) tt (sym r ∙ x) .1 .0 in
+      let bh = and-split (ltb h (G .H)) (ltb i (G .M) && ltb j (G .N)) (rw all tt) in
+      let bi = and-split (ltb i (G .M)) (ltb j (G .N)) (bh .1) in
+      (ltb→lt h (G .H) (bh .0), ltb→lt i (G .M) (bi .0), ltb→lt j (G .N) (bi .1))
+
+  found : {s : State} → k ≡ 0 → s ≡ stateAt (cutIn g) t h i j → is s ≡ stateCall c z (three a b d) t h i j
+  found x f = ap is (f ∙ ap (λ (G : Cut). stateAt G t h i j) cut) ∙ state-found c z (three a b d) t h i j (none-refused c z a b d e y) late x
+
+accept-no-requires : tie.Need-accept-no-requires
+accept-no-requires c κs = search needs
+
+returns : tie.Need-returns
+returns c =
+    let x = c .before .before .before .before .before .args in
+    state-early (x .c) (x .z) (three (now (x .a)) (now (x .b)) (now (x .d))) (x .done) (x .h) (x .i) (x .j)
+    (asked (x .c) (x .z) (now (x .a)) (now (x .b)) (now (x .d)) (c .before .accept-no .ensures)) (c .if1 .taken)
+
+plan-of-requires : tie.Need-plan-of-requires
+plan-of-requires c κs =
+    let x = c .before .before .before .before .before .args in
+    plan-asks (x .c) (x .z) (now (x .a)) (now (x .b)) (now (x .d)) (c .before .accept-no .ensures) (c .if1 .left)
+
+grid-of-requires : tie.Need-grid-of-requires
+grid-of-requires c κs =
+    let ten = c .before in
+    let x = ten .before .before .before .before .before .args in
+    grid-asks (x .c) (x .z) (now (x .a)) (now (x .b)) (now (x .d)) (ten .before .accept-no .ensures) (ten .if1 .left) (c .plan-of .result) (c .plan-of .ensures)
+
+state-no-requires : tie.Need-state-no-requires
+state-no-requires c κs = search needs
+
+returns-2 : tie.Need-returns-2
+returns-2 c =
+    let grid = c .before .before in
+    let plan = grid .before in
+    let ten = plan .before in
+    let x = ten .before .before .before .before .before .args in
+    late-no (x .c) (x .z) (now (x .a)) (now (x .b)) (now (x .d)) (ten .before .accept-no .ensures) (ten .if1 .left)
+    (plan .plan-of .result) (plan .plan-of .ensures) (grid .grid-of .result) (grid .grid-of .ensures) (x .done) (x .h) (x .i) (x .j)
+    (c .before .state-no .ensures) (c .if2 .taken)
+
+state-requires : tie.Need-state-requires
+state-requires c κs =
+    let grid = c .before .before in
+    let plan = grid .before in
+    let ten = plan .before in
+    let x = ten .before .before .before .before .before .args in
+    let inside = index-inside (x .c) (x .z) (now (x .a)) (now (x .b)) (now (x .d)) (ten .before .accept-no .ensures) (ten .if1 .left)
+    (plan .plan-of .result) (plan .plan-of .ensures) (grid .grid-of .result) (grid .grid-of .ensures) (x .done) (x .h) (x .i) (x .j)
+    (c .before .state-no .ensures) (c .if2 .left) in
+    (grid .grid-of .ensures .0 .counted, inside .0, inside .1, inside .2)
+
+answer-of-requires : tie.Need-answer-of-requires
+answer-of-requires c κs = search needs
+
+returns-3 : tie.Need-returns-3
+returns-3 c =
+    let all = c .before .before in
+    let grid = all .before .before in
+    let plan = grid .before in
+    let ten = plan .before in
+    let x = ten .before .before .before .before .before .args in
+    c .answer-of .ensures
+    ∙ found (x .c) (x .z) (now (x .a)) (now (x .b)) (now (x .d)) (ten .before .accept-no .ensures) (ten .if1 .left)
+    (plan .plan-of .result) (plan .plan-of .ensures) (grid .grid-of .result) (grid .grid-of .ensures) (x .done) (x .h) (x .i) (x .j)
+    (all .before .state-no .ensures) (all .if2 .left) (c .before .state .ensures)
+
+pub state-spec : {M : Type 1} → statement M
+state-spec =
+    tie.close
+    (tie.spec
+    accept-no-requires
+    returns
+    plan-of-requires
+    grid-of-requires
+    state-no-requires
+    returns-2
+    state-requires
+    answer-of-requires
+    returns-3)

@@ -1,0 +1,127 @@
+-- `run_tile` meets its contract. The tile stands inside its groups, so every place that the phases read or write is inside; the two packs leave A's block
+-- at the front of the work slice and B's right behind it, and the kernel's sums of them are the panel's, stored at the tile's places.
+-- Assumes nothing.
+use mathlib.Core.Path.{ap, _∙_}
+use native.Mathlib.Nat.{le-trans, mul-le-mul}
+use native.Mathlib.Omega.{arith}
+use borrow.Author.Needs.{needs}
+use lib.ListN.{length}
+use Rattle.contraction.specs.Operands.{A, B, D}
+use Rattle.tiled.proofs.TileSteps.{stepped, rows-few, cols-few, filled-few, places-a, places-b, places-d, room-behind, tile-packed, multiplied}
+use Rattle.tiled.proofs.PackedWork.{length-packed}
+use Rattle.tiled.proofs.tile.run_tile.Statement.{statement}
+use Rattle.tiled.proofs.tile.run_tile.Tie as tie
+
+of-requires : tie.Need-of-requires
+of-requires c κs = search needs
+
+cast-depth : tie.Need-cast-depth
+cast-depth c = search needs
+
+cast-pack : tie.Need-cast-pack
+cast-pack c = search needs
+
+cast-pack-2 : tie.Need-cast-pack-2
+cast-pack-2 c = search needs
+
+pack-requires : tie.Need-pack-requires
+pack-requires c κs =
+    let o = c .before .before .before .before .before .before .before .before .before .before .before in
+    let q = o .before .before .before .before .before .pre in
+    let f = q .0 .counted .fits in
+    let t = o .of .ensures in
+    (rows-few t A, le-trans (rows-few t A) (f .rows-few), f .rows-few, filled-few t, f .depth-few, stepped (t .rows) A, places-a t f (q .1) (q .2), omega (arith, q .3))
+
+mul-pack : tie.Need-mul-pack
+mul-pack c = let f = c .before .before .before .before .before .before .before .before .before .before .before .before .before .before .before .before .before .before .before .before .before .pre .0 .counted .fits in omega (arith, mul-le-mul (f .rows-few) (f .depth-few))
+
+mul-pack-2 : tie.Need-mul-pack-2
+mul-pack-2 c = let f = c .before .before .before .before .before .before .before .before .before .before .before .before .before .before .before .before .before .before .before .before .before .pre .0 .counted .fits in omega (arith, mul-le-mul (f .rows-few) (f .depth-few))
+
+sub-pack : tie.Need-sub-pack
+sub-pack c = search needs
+
+part-pack-start : tie.Need-part-pack-start
+part-pack-start c = search needs
+
+part-pack-end : tie.Need-part-pack-end
+part-pack-end c = search needs
+
+pack-requires-2 : tie.Need-pack-requires-2
+pack-requires-2 c κs =
+    let k = c .before .before .before .before .before in
+    let o = k .before .before .before .before .before .before .before .before .before .before .before .before in
+    let s = o .before .before .before .before .before in
+    let q = s .pre in
+    let f = q .0 .counted .fits in
+    let t = o .of .ensures in (
+      cols-few t B,
+      le-trans (cols-few t B) (f .cols-few),
+      f .cols-few,
+      filled-few t,
+      f .depth-few,
+      stepped (t .cols) B,
+      places-b t f (q .1) (q .2),
+      room-behind t (s .args .a .now) (s .args .work .now) (k .pack .ensures) (q .3),
+    )
+
+multiply-requires : tie.Need-multiply-requires
+multiply-requires c κs =
+    let l = c .before .before .before .before in
+    let k = l .before .before .before .before .before .before in
+    let o = k .before .before .before .before .before .before .before .before .before .before .before .before in
+    let s = o .before .before .before .before .before in
+    let q = s .pre in
+    let f = q .0 .counted .fits in
+    let t = o .of .ensures in
+    let e = tile-packed t (s .args .a .now) (s .args .b .now) (s .args .work .now) (k .pack .ensures) (l .pack2 .ensures) in (
+      rows-few t D,
+      le-trans (rows-few t D) (f .rows-few),
+      f .rows-few,
+      cols-few t D,
+      le-trans (cols-few t D) (f .cols-few),
+      f .cols-few,
+      filled-few t,
+      f .depth-few,
+      stepped (t .rows) D,
+      stepped (t .cols) D,
+      places-d t f (q .1) (q .2),
+      omega (arith, q .3, ap length e ∙ length-packed _ _ _ _ (s .args .work .now) (q .3)),
+    )
+
+same-length : tie.Need-same-length
+same-length c = search needs
+
+same-length-2 : tie.Need-same-length-2
+same-length-2 c = search needs
+
+returns : tie.Need-returns
+returns c =
+    let m = c .before .before in
+    let l = m .before .before .before .before .before in
+    let k = l .before .before .before .before .before .before in
+    let o = k .before .before .before .before .before .before .before .before .before .before .before .before in
+    let s = o .before .before .before .before .before .args in
+    let t = o .of .ensures in
+    let e = tile-packed t (s .a .now) (s .b .now) (s .work .now) (k .pack .ensures) (l .pack2 .ensures) in
+    (multiplied t (s .alpha) (s .beta) (s .a .now) (s .b .now) (s .work .now) e (s .d .now) (m .multiply .ensures), e)
+
+pub run-tile-spec : {M : Type 1} → statement M
+run-tile-spec =
+    tie.close
+    (tie.spec
+    of-requires
+    cast-depth
+    cast-pack
+    cast-pack-2
+    pack-requires
+    mul-pack
+    mul-pack-2
+    sub-pack
+    part-pack-start
+    part-pack-end
+    pack-requires-2
+    multiply-requires
+    same-length
+    same-length-2
+    returns)

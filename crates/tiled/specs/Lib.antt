@@ -1,0 +1,6 @@
+pub mod Setting
+pub mod Work
+pub mod Questions
+pub mod Call
+pub mod Planned
+pub mod Demand

@@ -1,0 +1,104 @@
+-- What the tile code computes, by the address words of a plan. Inside contracts only.
+-- Assumes nothing.
+use Prim.Native.Nat.{ℕ, _+_, _*_, _<_, _≤_}
+use mathlib.Core.Path.{_≡_}
+use mathlib.Core.List.{List}
+use lib.Dec.{eqb}
+use lib.ListN.{getD}
+use Rattle.words.specs.Words.{word, wordOf}
+use Rattle.layout.specs.Limits.{axesLimit}
+use Rattle.contraction.specs.declared.plan.Plan.{Plan}
+use Rattle.contraction.specs.Operands.{Operand, A, B, D, three}
+use Rattle.contraction.specs.Groups.{Group, batch, row, column, depth, labelsIn, size, offsetIn}
+use Rattle.contraction.specs.Offsets.{wordsIn}
+use Rattle.contraction.specs.Plan.{planned}
+use Rattle.contraction.specs.Ready.{Foldable}
+use Rattle.tiles.specs.declared.grid.Sizes.{Sizes}
+use Rattle.tiles.specs.declared.grid.Grid.{Grid}
+use Rattle.tiles.specs.Grid.{cutIn, Fits, Counted}
+use Rattle.tiles.specs.Cut.{Cut, width, batchOf, columnOf, panelOf, rowOf}
+use Rattle.tiles.specs.Setting.{Setting}
+use Rattle.blocks.specs.Block.{Blocked}
+use Rattle.tiled.specs.declared.stand.Stand.{Stand}
+
+module _ (p : Plan) where
+  -- how far a count of a group moves in a tensor, as an address word
+  abbrev pub moved : Group → Operand → ℕ → ℕ
+  moved g o n = word 64 (offsetIn (wordOf 64) o (labelsIn (planned p g)) n)
+
+  -- where a tensor stands at a batch count, and at a batch and a depth count
+  abbrev pub atBatch : ℕ → Operand → ℕ
+  atBatch h o = word 64 (wordsIn (p .base) o + moved batch o h)
+
+  abbrev pub atDepth : ℕ → ℕ → Operand → ℕ
+  atDepth h k o = word 64 (atBatch h o + offsetIn (wordOf 64) o (labelsIn (planned p depth)) k)
+
+  -- the places of the entries of A and B, and of an output
+  unfoldable pub placeA : ℕ → ℕ → ℕ → ℕ
+  placeA h i k = word 64 (atDepth h k A + moved row A i)
+
+  unfoldable pub placeB : ℕ → ℕ → ℕ → ℕ
+  placeB h j k = word 64 (atDepth h k B + moved column B j)
+
+  unfoldable pub placeD : ℕ → ℕ → ℕ → ℕ
+  placeD h i j = word 64 (word 64 (atBatch h D + moved column D j) + moved row D i)
+
+  -- the plan's groups, cut by a tile's sizes
+  abbrev pub planCut : Sizes → Cut
+  planCut z =
+      record {
+        H = size (labelsIn (planned p batch));
+        M = size (labelsIn (planned p row));
+        N = size (labelsIn (planned p column));
+        K = size (labelsIn (planned p depth));
+        rows = z .rows;
+        cols = z .cols;
+        depth = z .depth;
+      }
+
+  -- the words that tiles read of A and of B
+  abbrev pub leftIn : List ℕ → ℕ → ℕ → ℕ → ℕ
+  leftIn a h i k = getD a (placeA h i k) 0
+
+  abbrev pub rightIn : List ℕ → ℕ → ℕ → ℕ → ℕ
+  rightIn b h j k = getD b (placeB h j k) 0
+
+  unfoldable pub planSetting : Cut → ℕ → ℕ → List ℕ → List ℕ → Setting
+  planSetting G alpha beta a b =
+      record {
+        cut = G;
+        addr = placeD;
+        term = λ h i j k. leftIn a h i k * rightIn b h j k;
+        alpha = alpha;
+        start = λ h i j old. beta * old;
+      }
+
+  -- all that tiles read and write is inside
+  pub record Clear (G : Cut) (a b d : ℕ) : Type 0 where
+    pub inA : (h i k : ℕ) → h < G .H → i < G .M → k < G .K → placeA h i k < a
+    pub inB : (h j k : ℕ) → h < G .H → j < G .N → k < G .K → placeB h j k < b
+    pub inD : (h i j : ℕ) → h < G .H → i < G .M → j < G .N → placeD h i j < d
+
+  -- the grid is that of the plan's groups, and their lists are in the limit
+  pub record GridOf (g : Grid) : Type 0 where
+    pub counted : Counted g
+    pub same : cutIn g ≡ planCut (g .sizes)
+    pub few : (x : Group) → planned p x .count ≤ axesLimit
+
+  -- what the grid's numbers may assume: questions 1 to 10 passed
+  pub record PlanFits (z : Sizes) : Type 0 where
+    pub fits : Fits (planCut z)
+    pub foldable : (x : Group) → Foldable (labelsIn (planned p x))
+    pub few : (x : Group) → planned p x .count ≤ axesLimit
+
+  -- the code's record of where tile n stands
+  abbrev pub startsIn : Stand → Operand → List ℕ
+  startsIn s = three (s .a) (s .b) (s .d)
+
+  pub record Stands (G : Cut) (n : ℕ) (s : Stand) : Type 0 where
+    pub from : (o : Operand) → wordsIn (s .from) o ≡ atBatch (batchOf G n) o
+    pub rows : Blocked (labelsIn (planned p row)) (rowOf G n * G .rows) (width (G .M) (G .rows) (rowOf G n)) (s .rows)
+    pub cols : Blocked (labelsIn (planned p column)) (columnOf G n * G .cols) (width (G .N) (G .cols) (columnOf G n)) (s .cols)
+    pub filled : s .filled ≡ width (G .K) (G .depth) (panelOf G n)
+    pub starts : (o : Operand) (k : ℕ) → k < s .filled → getD (startsIn s o) k 0 ≡ atDepth (batchOf G n) (panelOf G n * G .depth + k) o
+    pub first : s .first ≡ eqb (panelOf G n) 0

@@ -1,0 +1,130 @@
+ghost use mathlib.Core.Path.{_≡_};
+ghost use Rattle.contraction.specs.Operands.{three};
+ghost use Rattle.tiles.specs.Grid.{stateOf};
+ghost use Rattle.tiled.specs.Planned.{GridOf, PlanFits};
+ghost use Rattle.tiled.specs.Call.{is, tileAnswer, stateAnswer, gave, tileCall, stateCall};
+use super::questions::accept_no;
+use super::questions::state_no;
+use super::questions::tile_no;
+use super::run::run_tiles;
+use contraction::contraction::Contraction;
+use contraction::contraction::Lengths;
+use contraction::plan::Plan;
+use contraction::plan::plan_of;
+use tiles::grid::Counts;
+use tiles::grid::Grid;
+use tiles::grid::Sizes;
+use tiles::grid::State;
+
+// What a tile call answers: the new count of tiles done and whether that is the total, or the number of the question that refused and the count as given.
+pub enum Outcome {
+    Ran { done: u64, complete: bool },
+    Refused { number: u32, done: u64 },
+}
+
+// What a state question answers: no panel done, some, all, or the number of the question that refused.
+pub enum Found {
+    Old,
+    Part,
+    Final,
+    Refused(u32),
+}
+
+// The grid of a plan's groups.
+fn grid_of(p: Plan, z: Sizes) -> Grid
+    requires { ⌜ PlanFits p z ⌝ }
+    ensures { λ r. ⌜ GridOf p r × (r .sizes ≡ z) ⌝ }
+{
+    let groups = p.groups;
+    let batch = groups.batch;
+    let row = groups.row;
+    let column = groups.column;
+    let depth = groups.depth;
+    let counts = Counts {
+        batch: batch.size_from(0),
+        row: row.size_from(0),
+        column: column.size_from(0),
+        depth: depth.size_from(0),
+    };
+    Grid::of(counts, z)
+}
+
+fn answer_of(s: State) -> Found
+    ensures { λ r. ⌜ stateAnswer r ≡ is (stateOf s) ⌝ }
+{
+    match s {
+        State::Old => Found::Old,
+        State::Part => Found::Part,
+        State::Final => Found::Final,
+    }
+}
+
+// Questions 1 to 12; where all pass, the smaller of the budget and what is left of the tiles is run. A refusal changes no word.
+pub fn run(
+    c: Contraction,
+    z: Sizes,
+    a: &[u32],
+    b: &[u32],
+    d: &mut [u32],
+    work: &mut [u32],
+    done: u64,
+    budget: u64,
+) -> Outcome
+    ensures { λ r. ⌜ gave (tileAnswer r) (now (d .exit)) (now (work .exit)) ≡ tileCall c z (three (now (a .entry)) (now (b .entry)) (now (d .entry))) (now (work .entry)) done budget ⌝ }
+{
+    let n = Lengths {
+        a: a.len(),
+        b: b.len(),
+        d: d.len(),
+    };
+    let number = accept_no(c, z, n);
+    if number != 0 {
+        return Outcome::Refused { number, done };
+    }
+    let p = plan_of(c, n);
+    let g = grid_of(p, z);
+    let number = tile_no(g, work.len(), done);
+    if number != 0 {
+        return Outcome::Refused { number, done };
+    }
+    let total = g.total;
+    let left = total - done;
+    let count = if budget < left { budget } else { left };
+    let t = run_tiles(p, g, c.alpha, c.beta, a, b, d, work, done, count);
+    Outcome::Ran {
+        done: t,
+        complete: t == total,
+    }
+}
+
+// Questions 1 to 10, 12 and 13; where all pass, the state of the output index of three counts after `done` tiles.
+pub fn state(
+    c: Contraction,
+    z: Sizes,
+    a: &[u32],
+    b: &[u32],
+    d: &[u32],
+    done: u64,
+    h: u64,
+    i: u64,
+    j: u64,
+) -> Found
+    ensures { λ r. ⌜ stateAnswer r ≡ stateCall c z (three (now (a .entry)) (now (b .entry)) (now (d .entry))) done h i j ⌝ }
+{
+    let n = Lengths {
+        a: a.len(),
+        b: b.len(),
+        d: d.len(),
+    };
+    let number = accept_no(c, z, n);
+    if number != 0 {
+        return Found::Refused(number);
+    }
+    let p = plan_of(c, n);
+    let g = grid_of(p, z);
+    let number = state_no(g, done, h, i, j);
+    if number != 0 {
+        return Found::Refused(number);
+    }
+    answer_of(g.state(done, h, i, j))
+}

@@ -1,0 +1,53 @@
+-- How the counts of a contraction's groups are cut into tiles, and the tiles' numbers.
+-- Assumes nothing.
+use Prim.Native.Nat.{ℕ, _+_, _-_, _*_, _/_, _%_, min, max}
+
+-- n counts cut into blocks of b: how many blocks, rounded up; and how many counts block k holds, fewer at the edge
+unfoldable pub blocks : ℕ → ℕ → ℕ
+blocks n b = (n + b - 1) / b
+
+unfoldable pub width : ℕ → ℕ → ℕ → ℕ
+width n b k = min b (n - k * b)
+
+pub record Cut : Type 0 where
+  pub H : ℕ  -- batch size
+  pub M : ℕ  -- row size
+  pub N : ℕ  -- column size
+  pub K : ℕ  -- depth size
+  pub rows : ℕ  -- of a tile
+  pub cols : ℕ
+  pub depth : ℕ
+
+module _ (G : Cut) where
+  open Cut G using (H, M, N, K, rows, cols, depth)
+
+  -- row blocks, column blocks and panels; depth size 0 is one panel, with no terms
+  unfoldable pub MB : ℕ
+  MB = blocks M rows
+
+  unfoldable pub NB : ℕ
+  NB = blocks N cols
+
+  unfoldable pub KB : ℕ
+  KB = max 1 (blocks K depth)
+
+  -- how many tiles there are
+  unfoldable pub total : ℕ
+  total = H * NB * KB * MB
+
+  -- the tile of batch count h, column block c, panel p and row block r has this number
+  unfoldable pub number : ℕ → ℕ → ℕ → ℕ → ℕ
+  number h c p r = ((h * NB + c) * KB + p) * MB + r
+
+  -- and the tile of number n has these
+  unfoldable pub batchOf : ℕ → ℕ
+  batchOf n = n / MB / KB / NB
+
+  unfoldable pub columnOf : ℕ → ℕ
+  columnOf n = n / MB / KB % NB
+
+  unfoldable pub panelOf : ℕ → ℕ
+  panelOf n = n / MB % KB
+
+  unfoldable pub rowOf : ℕ → ℕ
+  rowOf n = n % MB

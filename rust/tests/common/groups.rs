@@ -1,0 +1,126 @@
+//! The model's groups of labels, and how tiles cut them. Nothing is folded: a count's values are its digits.
+
+use super::case::{Case, Tensor};
+use super::direct::{address, Values};
+use nezgrak::TileSizes;
+use std::ops::Range;
+
+/// Labels with their extents. The first one runs fastest.
+pub struct Group(pub Vec<(u8, u32)>);
+
+impl Group {
+    pub fn size(&self) -> u64 {
+        self.0.iter().map(|(_, extent)| u64::from(*extent)).product()
+    }
+
+    /// Gives each label the value that it has at a count.
+    pub fn set(&self, values: &mut Values, count: u64) {
+        let mut rest = count;
+        for (letter, extent) in &self.0 {
+            values[usize::from(*letter)] = (rest % u64::from(*extent)) as i64;
+            rest /= u64::from(*extent);
+        }
+    }
+
+    /// The step of these counts in a tensor where they are even, 0 where there is one or none.
+    pub fn even_step(&self, t: &Tensor, counts: Range<u64>) -> Option<i64> {
+        let place = |count| {
+            let mut values: Values = [0; 128];
+            self.set(&mut values, count);
+            address(t, &values)
+        };
+        let places: Vec<i64> = counts.map(place).collect();
+        let steps: Vec<i64> = places.windows(2).map(|two| two[1] - two[0]).collect();
+        let first = steps.first().copied().unwrap_or(0);
+        steps.iter().all(|step| *step == first).then_some(first)
+    }
+}
+
+pub struct Groups {
+    pub batch: Group,
+    pub row: Group,
+    pub column: Group,
+    pub depth: Group,
+}
+
+impl Groups {
+    pub fn of(case: &Case) -> Self {
+        let (of_d, of_a_and_b) = (in_order(&[&case.d]), in_order(&[&case.a, &case.b]));
+        let has = |t: &Tensor, letter: u8| t.letters.contains(&letter);
+        let is_batch = |letter| has(&case.a, letter) && has(&case.b, letter);
+        let is_column = |letter| has(&case.b, letter) && !has(&case.a, letter);
+        Self {
+            batch: only(&of_d, is_batch),
+            row: only(&of_d, |letter| !is_batch(letter) && !is_column(letter)),
+            column: only(&of_d, is_column),
+            depth: only(&of_a_and_b, |letter| !has(&case.d, letter)),
+        }
+    }
+
+    /// The values of all labels at a count of each group.
+    pub fn values(&self, batch: u64, row: u64, column: u64, depth: u64) -> Values {
+        let mut values: Values = [0; 128];
+        self.batch.set(&mut values, batch);
+        self.row.set(&mut values, row);
+        self.column.set(&mut values, column);
+        self.depth.set(&mut values, depth);
+        values
+    }
+}
+
+/// The different labels, each where it first appears.
+fn in_order(tensors: &[&Tensor]) -> Vec<(u8, u32)> {
+    let mut labels: Vec<(u8, u32)> = Vec::new();
+    for (letter, extent) in tensors.iter().flat_map(|t| t.letters.iter().zip(&t.extents)) {
+        if labels.iter().all(|(seen, _)| seen != letter) {
+            labels.push((*letter, *extent));
+        }
+    }
+    labels
+}
+
+fn only(labels: &[(u8, u32)], belongs: impl Fn(u8) -> bool) -> Group {
+    Group(labels.iter().copied().filter(|(letter, _)| belongs(*letter)).collect())
+}
+
+/// The sizes of the groups, those of a tile, and how many blocks there are of each.
+#[derive(Clone, Copy)]
+pub struct Cut {
+    pub batch: u64,
+    pub row: u64,
+    pub column: u64,
+    pub depth: u64,
+    pub tile_rows: u64,
+    pub tile_cols: u64,
+    pub tile_depth: u64,
+    pub row_blocks: u64,
+    pub column_blocks: u64,
+    pub panels: u64,
+}
+
+impl Cut {
+    pub fn of(groups: &Groups, sizes: TileSizes) -> Self {
+        let (row, column, depth) = (groups.row.size(), groups.column.size(), groups.depth.size());
+        let [tile_rows, tile_cols, tile_depth] = [sizes.rows, sizes.cols, sizes.depth].map(u64::from);
+        Self {
+            batch: groups.batch.size(),
+            row,
+            column,
+            depth,
+            tile_rows,
+            tile_cols,
+            tile_depth,
+            row_blocks: row.div_ceil(tile_rows),
+            column_blocks: column.div_ceil(tile_cols),
+            panels: depth.div_ceil(tile_depth),
+        }
+    }
+
+    pub fn total(&self) -> u64 {
+        self.batch * self.column_blocks * self.panels * self.row_blocks
+    }
+
+    pub fn number(&self, batch: u64, column_block: u64, panel: u64, row_block: u64) -> u64 {
+        ((batch * self.column_blocks + column_block) * self.panels + panel) * self.row_blocks + row_block
+    }
+}
