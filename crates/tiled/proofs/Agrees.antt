@@ -18,32 +18,36 @@ use Rattle.contraction.specs.Plan.{Planned}
 use Rattle.contraction.proofs.Lacks.{a-lacks, b-lacks, address-lacks}
 use Rattle.contraction.proofs.Ready.{AllPassed}
 use Rattle.tiles.specs.declared.grid.Sizes.{Sizes}
-use Rattle.tiles.specs.Cut.{Cut, width, total, columnOf, panelOf, rowOf}
+use Rattle.tiles.specs.Cut.{Cut, width, total, batchOf, columnOf, panelOf, rowOf}
 use Rattle.tiles.specs.Setting.{walk, tilesFrom}
 use Rattle.tiles.proofs.Agree.{Agree, walk-agrees as walk-same}
 use Rattle.tiles.proofs.Cuts.{place-in}
 use Rattle.tiles.proofs.Numbering.{tile-of}
 use Rattle.blocks.proofs.Packing.{packed-ext}
 use Rattle.tiled.specs.Setting.{counts, cutOf, entryAt, setting}
-use Rattle.tiled.specs.Work.{packedLeft, packedRight, packed, packedLast, workAfter}
+use Rattle.tiled.specs.Work.{packedBlock, packed, packedLast, workAfter}
 use Rattle.tiled.specs.Planned.{leftIn, rightIn, planSetting}
 use Rattle.tiled.proofs.Reaches.{reaches-a, reaches-b, reaches-d}
 
--- entries that agree at every count in range are packed alike
+-- entries that agree at every count in range are packed alike: the words of a block, and of the work slice
+block-agrees : (G : Cut) (size lanes b n : ℕ) {entry entry′ : ℕ → ℕ → ℕ → ℕ}
+    → ((h m k : ℕ) → h < G .H → m < size → k < G .K → entry h m k ≡ entry′ h m k) → batchOf G n < G .H → (x : ℕ)
+    → packedBlock G size lanes b entry n x ≡ packedBlock G size lanes b entry′ n x
+unfolding packedBlock
+block-agrees G size lanes b n e h =
+    packed-ext lanes (width size lanes b) (width (G .K) (G .depth) (panelOf G n))
+    (λ l d i j. e _ _ _ h (place-in size lanes b i) (place-in (G .K) (G .depth) (panelOf G n) j))
+
 module _ (G : Cut) {left left′ right right′ : ℕ → ℕ → ℕ → ℕ}
     (e : (h i k : ℕ) → h < G .H → i < G .M → k < G .K → left h i k ≡ left′ h i k)
     (f : (h j k : ℕ) → h < G .H → j < G .N → k < G .K → right h j k ≡ right′ h j k) where
   packed-agrees : (n : ℕ) → n < total G → (work : List ℕ) → packed G left right n work ≡ packed G left′ right′ n work
-  unfolding packed packedLeft packedRight
+  unfolding packed
   packed-agrees n b work =
-      let v = tile-of G n b in
+      let h = tile-of G n b .batch in
       rw (
-        tabulate-ext (G .rows * G .depth) (λ x _.
-            packed-ext (G .rows) (width (G .M) (G .rows) (rowOf G n)) (width (G .K) (G .depth) (panelOf G n))
-            (λ r d br bd. e _ _ _ (v .batch) (place-in (G .M) (G .rows) (rowOf G n) br) (place-in (G .K) (G .depth) (panelOf G n) bd)) x),
-        tabulate-ext (G .cols * G .depth) (λ x _.
-            packed-ext (G .cols) (width (G .N) (G .cols) (columnOf G n)) (width (G .K) (G .depth) (panelOf G n))
-            (λ r d br bd. f _ _ _ (v .batch) (place-in (G .N) (G .cols) (columnOf G n) br) (place-in (G .K) (G .depth) (panelOf G n) bd)) x),
+        tabulate-ext (G .rows * G .depth) (λ x _. block-agrees G (G .M) (G .rows) (rowOf G n) n e h x),
+        tabulate-ext (G .cols * G .depth) (λ x _. block-agrees G (G .N) (G .cols) (columnOf G n) n f h x),
       )
 
   last-agrees : (t n : ℕ) → t + n ≤ total G → (work : List ℕ) → packedLast G left right t n work ≡ packedLast G left′ right′ t n work

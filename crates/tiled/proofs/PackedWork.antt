@@ -18,7 +18,7 @@ use Rattle.blocks.specs.Packed.{front}
 use Rattle.blocks.proofs.Fronts.{length-front, drop-front}
 use Rattle.blocks.proofs.Lanes.{lane-inside}
 use Rattle.blocks.proofs.Packing.{packed-at}
-use Rattle.tiled.specs.Work.{packedLeft, packedRight, packed, packedLast}
+use Rattle.tiled.specs.Work.{packedBlock, packedLeft, packedRight, packed, packedLast}
 use Rattle.tiles.proofs.Cuts.{width-le}
 
 -- a front, and then a front of the part behind it
@@ -42,6 +42,18 @@ part-room a b f xs {ys} e h =
 -- how many words a tile packs
 abbrev pub packs : Cut → ℕ
 packs G = G .rows * G .depth + G .cols * G .depth
+
+-- the word of lane l and depth d of a packed block: its place, and what it holds
+module _ (G : Cut) (size lanes b : ℕ) where
+  block-inside : (n : ℕ) {l d : ℕ} → l < width size lanes b → d < width (G .K) (G .depth) (panelOf G n) → lanes * d + l < lanes * G .depth
+  block-inside n h k = omega (arith, width-le size lanes b, lane-inside lanes k (width-le (G .K) (G .depth) (panelOf G n)) (le-refl (lanes * G .depth)))
+
+  block-word : (entry : ℕ → ℕ → ℕ → ℕ) (n l d : ℕ) → l < width size lanes b → d < width (G .K) (G .depth) (panelOf G n)
+      → packedBlock G size lanes b entry n (lanes * d + l) ≡ entry (batchOf G n) (b * lanes + l) (panelOf G n * G .depth + d)
+  unfolding packedBlock
+  block-word entry n l d h k =
+      packed-at lanes (width size lanes b) (width (G .K) (G .depth) (panelOf G n)) (λ l d. entry (batchOf G n) (b * lanes + l) (panelOf G n * G .depth + d))
+      l d h (width-le size lanes b) k
 
 module _ (G : Cut) (left right : ℕ → ℕ → ℕ → ℕ) where
   open Cut G using (M, N, K, rows, cols, depth)
@@ -72,20 +84,14 @@ module _ (G : Cut) (left right : ℕ → ℕ → ℕ → ℕ) where
   -- A's word of row r and depth d, and B's of column c and depth d
   pub left-word : (n r d : ℕ) (work : List ℕ) → r < width M rows (rowOf G n) → d < width K depth (panelOf G n)
       → getD (packed G left right n work) (rows * d + r) 0 ≡ left (batchOf G n) (rowOf G n * rows + r) (panelOf G n * depth + d)
-  unfolding packedLeft
-  left-word n r d work h k =
-      let narrow = width-le M rows (rowOf G n) in
-      at-left n (rows * d + r) work (omega (arith, narrow, lane-inside rows k (width-le K depth (panelOf G n)) (le-refl (rows * depth))))
-      ∙ packed-at rows (width M rows (rowOf G n)) (width K depth (panelOf G n)) (λ r d. left (batchOf G n) (rowOf G n * rows + r) (panelOf G n * depth + d)) r d h narrow k
+  left-word n r d work h k = at-left n (rows * d + r) work (block-inside G M rows (rowOf G n) n h k) ∙ block-word G M rows (rowOf G n) left n r d h k
 
   pub right-word : (n c d : ℕ) (work : List ℕ) → c < width N cols (columnOf G n) → d < width K depth (panelOf G n)
       → getD (packed G left right n work) (rows * depth + c + cols * d) 0 ≡ right (batchOf G n) (columnOf G n * cols + c) (panelOf G n * depth + d)
-  unfolding packedRight
   right-word n c d work h k =
-      let narrow = width-le N cols (columnOf G n) in
       ap (λ (x : ℕ). getD (packed G left right n work) x 0) (omega arith)
-      ∙ at-right n (cols * d + c) work (omega (arith, narrow, lane-inside cols k (width-le K depth (panelOf G n)) (le-refl (cols * depth))))
-      ∙ packed-at cols (width N cols (columnOf G n)) (width K depth (panelOf G n)) (λ c d. right (batchOf G n) (columnOf G n * cols + c) (panelOf G n * depth + d)) c d h narrow k
+      ∙ at-right n (cols * d + c) work (block-inside G N cols (columnOf G n) n h k)
+      ∙ block-word G N cols (columnOf G n) right n c d h k
 
   -- ---- over a run of tiles
 

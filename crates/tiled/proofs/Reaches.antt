@@ -30,7 +30,7 @@ use Rattle.tiles.specs.declared.grid.Sizes.{Sizes}
 use Rattle.tiled.specs.Setting.{counts, cutOf, addressAt}
 use Rattle.tiled.specs.Questions.{sizesFit}
 use Rattle.tiled.proofs.TileSizes.{sizes-limited}
-use Rattle.tiled.specs.Planned.{placeA, placeB, placeD, planCut, Clear, PlanFits}
+use Rattle.tiled.specs.Planned.{placeIn, placeD, planCut, Clear, PlanFits}
 
 -- count 0 moves nowhere
 offset-zero : (w : Label → ℕ) (g : List Label) → offset w g 0 ≡ 0
@@ -110,13 +110,13 @@ module _ (c : Contraction) (n : Operand → ℕ) (ok : AllPassed (tensors c) n) 
   zero-offset o g = offset-zero _ (labelsIn (planned p g))
 
   pub reaches-a : (h i k : ℕ) → h < size (group (shapeIn c) batch) → i < size (group (shapeIn c) row) → k < size (group (shapeIn c) depth)
-      → placeA p h i k ≡ address (tensors c A) (index (shapeIn c) (counts h i 0 k))
-  unfolding placeA
+      → placeIn p row A h i k ≡ address (tensors c A) (index (shapeIn c) (counts h i 0 k))
+  unfolding placeIn
   reaches-a h i k bh bi bk = steps-whole _ _ _ _ ∙ reached h i 0 k bh bi (size-pos column) bk A _ (omega (arith, zero-offset A column))
 
   pub reaches-b : (h j k : ℕ) → h < size (group (shapeIn c) batch) → j < size (group (shapeIn c) column) → k < size (group (shapeIn c) depth)
-      → placeB p h j k ≡ address (tensors c B) (index (shapeIn c) (counts h 0 j k))
-  unfolding placeB
+      → placeIn p column B h j k ≡ address (tensors c B) (index (shapeIn c) (counts h 0 j k))
+  unfolding placeIn
   reaches-b h j k bh bj bk = steps-whole _ _ _ _ ∙ reached h 0 j k bh (size-pos row) bj bk B _ (omega (arith, zero-offset B row))
 
   pub reaches-d : (h i j : ℕ) → h < size (group (shapeIn c) batch) → i < size (group (shapeIn c) row) → j < size (group (shapeIn c) column)

@@ -15,7 +15,8 @@ use Rattle.words.proofs.Store.{each-ext}
 use Rattle.words.proofs.Sums.{sumTo-ext}
 use Rattle.contraction.specs.declared.plan.Plan.{Plan}
 use Rattle.contraction.specs.Operands.{Operand, A, B, D}
-use Rattle.contraction.specs.Groups.{Label}
+use Rattle.contraction.specs.Groups.{Label, Group, row, column, labelsIn}
+use Rattle.contraction.specs.Plan.{planned}
 use Rattle.tiles.specs.Cut.{Cut, width, total, batchOf, columnOf, panelOf, rowOf}
 use Rattle.tiles.specs.Grid.{Fits}
 use Rattle.tiles.specs.Setting.{Setting, panelSum, addPanel, tileAt, tileStep}
@@ -29,8 +30,8 @@ use Rattle.blocks.specs.Packed.{front, packedWord, columnSum, tileSum, addedTo}
 use Rattle.blocks.proofs.Fronts.{front-ext}
 use Rattle.blocks.proofs.Packing.{packed-ext}
 use Rattle.tiled.specs.declared.stand.Stand.{Stand}
-use Rattle.tiled.specs.Planned.{placeA, placeB, placeD, leftIn, rightIn, planSetting, Clear, Stands}
-use Rattle.tiled.specs.Work.{packedLeft, packedRight, packed}
+use Rattle.tiled.specs.Planned.{placeIn, placeD, leftIn, rightIn, planSetting, Clear, startsIn, Stands}
+use Rattle.tiled.specs.Work.{packedBlock, packedLeft, packedRight, packed}
 use Rattle.tiled.proofs.PackedWork.{two-fronts, part-room, packs, left-word, right-word}
 
 -- the step of a block is that of the counts in use
@@ -41,15 +42,12 @@ stepped r o = rw (r .used o) (r .step o)
 module _ {p : Plan} {G : Cut} {n : ℕ} {s : Stand} (t : Stands p G n s) where
   -- ---- the tile's places
 
-  place-a : (i k : ℕ) → i < s .rows .a .count → k < s .filled
-      → placeOf (getD (s .a) k 0) (s .rows .a .offsets) i ≡ placeA p (batchOf G n) (rowOf G n * G .rows + i) (panelOf G n * G .depth + k)
-  unfolding placeA
-  place-a i k h l = rw (t .starts A k l, t .rows .offsets A i (rw (t .rows .used A) at h))
-
-  place-b : (j k : ℕ) → j < s .cols .b .count → k < s .filled
-      → placeOf (getD (s .b) k 0) (s .cols .b .offsets) j ≡ placeB p (batchOf G n) (columnOf G n * G .cols + j) (panelOf G n * G .depth + k)
-  unfolding placeB
-  place-b j k h l = rw (t .starts B k l, t .cols .offsets B j (rw (t .cols .used B) at h))
+  -- in any tensor, of a block of any group
+  place-at : (g : Group) {first count : ℕ} {bs : Blocks} → Blocked (labelsIn (planned p g)) first count bs → (o : Operand) (l k : ℕ)
+      → l < blocksIn bs o .count → k < s .filled
+      → placeOf (getD (startsIn p s o) k 0) (blocksIn bs o .offsets) l ≡ placeIn p g o (batchOf G n) (first + l) (panelOf G n * G .depth + k)
+  unfolding placeIn
+  place-at g r o l k h m = rw (t .starts o k m, r .offsets o l (rw (r .used o) at h))
 
   place-d : (i j : ℕ) → i < s .rows .d .count → j < s .cols .d .count
       → placeOf (placeOf (s .from .d) (s .cols .d .offsets) j) (s .rows .d .offsets) i ≡ placeD p (batchOf G n) (rowOf G n * G .rows + i) (columnOf G n * G .cols + j)
@@ -58,40 +56,32 @@ module _ {p : Plan} {G : Cut} {n : ℕ} {s : Stand} (t : Stands p G n s) where
 
   -- ---- what is packed
 
-  -- the words that the two packs store
-  abbrev storedLeft : List ℕ → ℕ → ℕ
-  storedLeft a = packedWord (G .rows) (s .rows .a .count) (s .filled) (λ i k. getD a (placeOf (getD (s .a) k 0) (s .rows .a .offsets) i) 0)
+  -- the words that a pack stores: those of the tile's block
+  abbrev storedBlock : ℕ → Blocks → Operand → List ℕ → ℕ → ℕ
+  storedBlock lanes bs o xs = packedWord lanes (blocksIn bs o .count) (s .filled) (λ l k. getD xs (placeOf (getD (startsIn p s o) k 0) (blocksIn bs o .offsets) l) 0)
 
-  abbrev storedRight : List ℕ → ℕ → ℕ
-  storedRight b = packedWord (G .cols) (s .cols .b .count) (s .filled) (λ j k. getD b (placeOf (getD (s .b) k 0) (s .cols .b .offsets) j) 0)
-
-  left-stored : (a : List ℕ) (right : ℕ → ℕ → ℕ → ℕ) (x : ℕ) → storedLeft a x ≡ packedLeft G (leftIn p a) right n x
-  unfolding packedLeft
-  left-stored a right x =
-      packed-ext (G .rows) (s .rows .a .count) (s .filled) (λ i k h l. ap (λ (y : ℕ). getD a y 0) (place-a i k h l)) x
-      ∙ rw (t .rows .used A, t .filled)
-
-  right-stored : (b : List ℕ) (left : ℕ → ℕ → ℕ → ℕ) (x : ℕ) → storedRight b x ≡ packedRight G left (rightIn p b) n x
-  unfolding packedRight
-  right-stored b left x =
-      packed-ext (G .cols) (s .cols .b .count) (s .filled) (λ j k h l. ap (λ (y : ℕ). getD b y 0) (place-b j k h l)) x
-      ∙ rw (t .cols .used B, t .filled)
+  block-stored : (g : Group) (size lanes b : ℕ) {bs : Blocks} → Blocked (labelsIn (planned p g)) (b * lanes) (width size lanes b) bs → (o : Operand) (xs : List ℕ) (x : ℕ)
+      → storedBlock lanes bs o xs x ≡ packedBlock G size lanes b (λ h m k. getD xs (placeIn p g o h m k) 0) n x
+  unfolding packedBlock
+  block-stored g size lanes b {bs} r o xs x =
+      packed-ext lanes (blocksIn bs o .count) (s .filled) (λ l k h m. ap (λ (y : ℕ). getD xs y 0) (place-at g r o l k h m)) x
+      ∙ rw (r .used o, t .filled)
 
   -- B's block has room behind A's
-  pub room-behind : (a work : List ℕ) {ys : List ℕ} → ys ≡ front (G .rows * G .depth) (storedLeft a) work → packs G ≤ length work
+  pub room-behind : (a work : List ℕ) {ys : List ℕ} → ys ≡ front (G .rows * G .depth) (storedBlock (G .rows) (s .rows) A a) work → packs G ≤ length work
       → G .cols * G .depth ≤ length (midOf (G .rows * G .depth) (length ys - G .rows * G .depth) ys)
-  room-behind a = part-room (G .rows * G .depth) (G .cols * G .depth) (storedLeft a)
+  room-behind a = part-room (G .rows * G .depth) (G .cols * G .depth) (storedBlock (G .rows) (s .rows) A a)
 
   -- the work slice after the two packs: A's block, and then B's in the part behind it
-  pub tile-packed : (a b work : List ℕ) {ys part : List ℕ} → ys ≡ front (G .rows * G .depth) (storedLeft a) work
-      → part ≡ front (G .cols * G .depth) (storedRight b) (midOf (G .rows * G .depth) (length ys - G .rows * G .depth) ys)
+  pub tile-packed : (a b work : List ℕ) {ys part : List ℕ} → ys ≡ front (G .rows * G .depth) (storedBlock (G .rows) (s .rows) A a) work
+      → part ≡ front (G .cols * G .depth) (storedBlock (G .cols) (s .cols) B b) (midOf (G .rows * G .depth) (length ys - G .rows * G .depth) ys)
       → putMid (G .rows * G .depth) (length ys - G .rows * G .depth) ys part ≡ packed G (leftIn p a) (rightIn p b) n work
   unfolding packed
   tile-packed a b work {ys = ys} e q =
       let c = G .rows * G .depth in
       two-fronts c (G .cols * G .depth) (packedLeft G (leftIn p a) (rightIn p b) n) (packedRight G (leftIn p a) (rightIn p b) n) work
-      (e ∙ front-ext c {f = storedLeft a} work (λ x h. left-stored a (rightIn p b) x))
-      (q ∙ front-ext (G .cols * G .depth) {f = storedRight b} (midOf c (length ys - c) ys) (λ x h. right-stored b (leftIn p a) x))
+      (e ∙ front-ext c {f = storedBlock (G .rows) (s .rows) A a} work (λ x h. block-stored row (G .M) (G .rows) (rowOf G n) (t .rows) A a x))
+      (q ∙ front-ext (G .cols * G .depth) {f = storedBlock (G .cols) (s .cols) B b} (midOf c (length ys - c) ys) (λ x h. block-stored column (G .N) (G .cols) (columnOf G n) (t .cols) B b x))
 
   -- ---- what the phases ask
 
@@ -107,23 +97,33 @@ module _ {p : Plan} {G : Cut} {n : ℕ} {s : Stand} (t : Stands p G n s) where
 
   -- its places are inside
   module _ (f : Fits G) (l : n < total G) {a b d : ℕ} (clear : Clear p G a b d) where
-    row-in : (o : Operand) {i : ℕ} → i < blocksIn (s .rows) o .count → rowOf G n * G .rows + i < G .M
-    row-in o h = place-in (G .M) (G .rows) (rowOf G n) (rw (t .rows .used o) at h)
-
-    column-in : (o : Operand) {j : ℕ} → j < blocksIn (s .cols) o .count → columnOf G n * G .cols + j < G .N
-    column-in o h = place-in (G .N) (G .cols) (columnOf G n) (rw (t .cols .used o) at h)
-
     depth-in : {k : ℕ} → k < s .filled → panelOf G n * G .depth + k < G .K
     depth-in h = place-in (G .K) (G .depth) (panelOf G n) (rw (t .filled) at h)
 
+    -- a count of a block is one of its group
+    lane-in : {labels : List Label} (size lanes b : ℕ) {bs : Blocks} → Blocked labels (b * lanes) (width size lanes b) bs → (o : Operand) {l : ℕ}
+        → l < blocksIn bs o .count → b * lanes + l < size
+    lane-in size lanes b r o h = place-in size lanes b (rw (r .used o) at h)
+
+    places-at : (g : Group) (size lanes b : ℕ) {bs : Blocks} → Blocked (labelsIn (planned p g)) (b * lanes) (width size lanes b) bs → (o : Operand) {len : ℕ}
+        → ((m k : ℕ) → m < size → k < G .K → placeIn p g o (batchOf G n) m k < len)
+        → PlacesAt (startsIn p s o) (s .filled) (blocksIn bs o .offsets) (blocksIn bs o .count) len
+    places-at g size lanes b r o inside =
+        record { each = λ k h. record { each = λ l m. rw (place-at g r o l k m h) (inside _ _ (lane-in size lanes b r o m) (depth-in h)) } }
+
     pub places-a : PlacesAt (s .a) (s .filled) (s .rows .a .offsets) (s .rows .a .count) a
-    places-a = record { each = λ k h. record { each = λ i m. rw (place-a i k m h) (clear .inA _ _ _ (tile-in f l .0) (row-in A m) (depth-in h)) } }
+    places-a = places-at row (G .M) (G .rows) (rowOf G n) (t .rows) A (λ m k. clear .inA _ m k (tile-in f l .0))
 
     pub places-b : PlacesAt (s .b) (s .filled) (s .cols .b .offsets) (s .cols .b .count) b
-    places-b = record { each = λ k h. record { each = λ j m. rw (place-b j k m h) (clear .inB _ _ _ (tile-in f l .0) (column-in B m) (depth-in h)) } }
+    places-b = places-at column (G .N) (G .cols) (columnOf G n) (t .cols) B (λ m k. clear .inB _ m k (tile-in f l .0))
 
     pub places-d : PlacesIn (s .from .d) (s .cols .d .offsets) (s .cols .d .count) (s .rows .d .offsets) (s .rows .d .count) d
-    places-d = record { each = λ j h. record { each = λ i m. rw (place-d i j m h) (clear .inD _ _ _ (tile-in f l .0) (row-in D m) (column-in D h)) } }
+    places-d =
+        record {
+          each = λ j h. record {
+            each = λ i m. rw (place-d i j m h) (clear .inD _ _ _ (tile-in f l .0) (lane-in (G .M) (G .rows) (rowOf G n) (t .rows) D m) (lane-in (G .N) (G .cols) (columnOf G n) (t .cols) D h));
+          };
+        }
 
   -- ---- the kernel's sums
 

@@ -33,12 +33,9 @@ module _ (p : Plan) where
   abbrev pub atDepth : ℕ → ℕ → Operand → ℕ
   atDepth h k o = word 64 (atBatch h o + offsetIn (wordOf 64) o (labelsIn (planned p depth)) k)
 
-  -- the places of the entries of A and B, and of an output
-  unfoldable pub placeA : ℕ → ℕ → ℕ → ℕ
-  placeA h i k = word 64 (atDepth h k A + moved row A i)
-
-  unfoldable pub placeB : ℕ → ℕ → ℕ → ℕ
-  placeB h j k = word 64 (atDepth h k B + moved column B j)
+  -- the place of a tensor's entry at a batch count, a count of a group and a depth count, and that of an output
+  unfoldable pub placeIn : Group → Operand → ℕ → ℕ → ℕ → ℕ
+  placeIn g o h m k = word 64 (atDepth h k o + moved g o m)
 
   unfoldable pub placeD : ℕ → ℕ → ℕ → ℕ
   placeD h i j = word 64 (word 64 (atBatch h D + moved column D j) + moved row D i)
@@ -58,10 +55,10 @@ module _ (p : Plan) where
 
   -- the words that tiles read of A and of B
   abbrev pub leftIn : List ℕ → ℕ → ℕ → ℕ → ℕ
-  leftIn a h i k = getD a (placeA h i k) 0
+  leftIn a h i k = getD a (placeIn row A h i k) 0
 
   abbrev pub rightIn : List ℕ → ℕ → ℕ → ℕ → ℕ
-  rightIn b h j k = getD b (placeB h j k) 0
+  rightIn b h j k = getD b (placeIn column B h j k) 0
 
   unfoldable pub planSetting : Cut → ℕ → ℕ → List ℕ → List ℕ → Setting
   planSetting G alpha beta a b =
@@ -75,8 +72,8 @@ module _ (p : Plan) where
 
   -- all that tiles read and write is inside
   pub record Clear (G : Cut) (a b d : ℕ) : Type 0 where
-    pub inA : (h i k : ℕ) → h < G .H → i < G .M → k < G .K → placeA h i k < a
-    pub inB : (h j k : ℕ) → h < G .H → j < G .N → k < G .K → placeB h j k < b
+    pub inA : (h i k : ℕ) → h < G .H → i < G .M → k < G .K → placeIn row A h i k < a
+    pub inB : (h j k : ℕ) → h < G .H → j < G .N → k < G .K → placeIn column B h j k < b
     pub inD : (h i j : ℕ) → h < G .H → i < G .M → j < G .N → placeD h i j < d
 
   -- the grid is that of the plan's groups, and their lists are in the limit

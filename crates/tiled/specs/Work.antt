@@ -14,21 +14,25 @@ use Rattle.tiles.specs.Cut.{Cut, width, batchOf, columnOf, panelOf, rowOf}
 use Rattle.blocks.specs.Packed.{packedWord}
 use Rattle.tiled.specs.Setting.{cutOf, entryAt}
 
--- a tile packs A's entries at its batch count, rows and depth counts, and B's at its batch count, columns and depth counts
+module _ (G : Cut) where
+  open Cut G using (K, depth)
+
+  -- word x of a block that tile n packs: its lanes are the counts of block b of a group of that size, and lane l and depth d stand at l + lanes × d; past
+  -- the edge 0. What is packed are the entries at the tile's batch count, these counts and its depth counts.
+  unfoldable pub packedBlock : ℕ → ℕ → ℕ → (ℕ → ℕ → ℕ → ℕ) → ℕ → ℕ → ℕ
+  packedBlock size lanes b entry n =
+      packedWord lanes (width size lanes b) (width K depth (panelOf G n))
+      (λ l d. entry (batchOf G n) (b * lanes + l) (panelOf G n * depth + d))
+
+-- of A the entries at batch, row and depth counts, of B those at batch, column and depth counts
 module _ (G : Cut) (left right : ℕ → ℕ → ℕ → ℕ) where
-  open Cut G using (M, N, K, rows, cols, depth)
+  open Cut G using (M, N, rows, cols, depth)
 
-  -- word x of tile n's block of A: row r and depth d at r + rows × d; past the edge 0
-  unfoldable pub packedLeft : ℕ → ℕ → ℕ
-  packedLeft n =
-      packedWord rows (width M rows (rowOf G n)) (width K depth (panelOf G n))
-      (λ r d. left (batchOf G n) (rowOf G n * rows + r) (panelOf G n * depth + d))
+  abbrev pub packedLeft : ℕ → ℕ → ℕ
+  packedLeft n = packedBlock G M rows (rowOf G n) left n
 
-  -- word x of its block of B: column c and depth d at c + cols × d; past the edge 0
-  unfoldable pub packedRight : ℕ → ℕ → ℕ
-  packedRight n =
-      packedWord cols (width N cols (columnOf G n)) (width K depth (panelOf G n))
-      (λ c d. right (batchOf G n) (columnOf G n * cols + c) (panelOf G n * depth + d))
+  abbrev pub packedRight : ℕ → ℕ → ℕ
+  packedRight n = packedBlock G N cols (columnOf G n) right n
 
   -- A's block first, B's right after it, the rest unchanged
   unfoldable pub packed : ℕ → List ℕ → List ℕ
