@@ -18,7 +18,10 @@ const TERM: TileSizes = TileSizes { rows: 1, cols: 1, depth: 1 };
 
 fn main() -> ExitCode {
     let rows = [
-        one_tile(),
+        one_tile("the same packed loops in safe Rust", Some(1.0), |problem, d, work| {
+            packed::run(problem, TILE, d, work)
+        }),
+        one_tile("the same, compiled for these sizes only", None, packed::run_known),
         whole_product(),
         last_call("a call of one tile of 64×64×128, the last of 256", TILE, 256),
         last_call("a call of one tile of one term, the last of 134,217,728", TERM, 134_217_728),
@@ -32,7 +35,7 @@ fn main() -> ExitCode {
 }
 
 /// One full tile, packing included, and the same packed loops in safe Rust.
-fn one_tile() -> Row {
+fn one_tile(compared: &'static str, required: Option<f64>, loops: fn(&Matrices, &mut [u32], &mut [u32])) -> Row {
     let problem = Matrices::random(64, 64, 128);
     let (mut d, mut work) = problem.lent(TILE);
     let (mut packed_d, mut packed_work) = problem.lent(TILE);
@@ -40,11 +43,10 @@ fn one_tile() -> Row {
         200,
         20,
         || problem.run(TILE, &mut d, &mut work, 0, 1),
-        || packed::run(&problem, TILE, &mut packed_d, &mut packed_work),
+        || loops(&problem, &mut packed_d, &mut packed_work),
     );
     assert!(d == packed_d && work == packed_work, "one tile: the engine and safe Rust differ");
-    let (what, compared) = ("one tile of 64×64×128, packing included", "the same packed loops in safe Rust");
-    Row { what, engine, compared, other, required: Some(1.0) }
+    Row { what: "one tile of 64×64×128, packing included", engine, compared, other, required }
 }
 
 /// A product of 512³ terms in one call, and a naive odometer.

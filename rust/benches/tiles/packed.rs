@@ -3,9 +3,22 @@
 
 use super::matrices::Matrices;
 use nezgrak::TileSizes;
+use std::hint::black_box;
 
-/// The problem is one full tile.
+/// The problem is one full tile. The compiler can't know its sizes, as the engine can't.
+#[inline(never)]
 pub fn run(problem: &Matrices, sizes: TileSizes, d: &mut [u32], work: &mut [u32]) {
+    tile(problem, black_box(sizes), d, work);
+}
+
+/// The same, compiled for 64×64×128 only.
+#[inline(never)]
+pub fn run_known(problem: &Matrices, d: &mut [u32], work: &mut [u32]) {
+    tile(problem, TileSizes { rows: 64, cols: 64, depth: 128 }, d, work);
+}
+
+#[inline(always)]
+fn tile(problem: &Matrices, sizes: TileSizes, d: &mut [u32], work: &mut [u32]) {
     let [rows, cols, depth] = [sizes.rows, sizes.cols, sizes.depth].map(|size| size as usize);
     assert_eq!([rows, cols, depth], [problem.rows, problem.cols, problem.depth]);
     let (a, b) = work.split_at_mut(rows * depth);
@@ -21,6 +34,7 @@ pub fn run(problem: &Matrices, sizes: TileSizes, d: &mut [u32], work: &mut [u32]
 }
 
 /// Lane n and depth k at n + width × k.
+#[inline(always)]
 fn pack(words: &[u32], lane_stride: usize, depth_stride: usize, width: usize, depth: usize, packed: &mut [u32]) {
     for k in 0..depth {
         for n in 0..width {
@@ -29,6 +43,7 @@ fn pack(words: &[u32], lane_stride: usize, depth_stride: usize, width: usize, de
     }
 }
 
+#[inline(always)]
 fn column(a: &[u32], b: &[u32], rows: usize, cols: usize, depth: usize, c: usize) -> [u32; 64] {
     let mut sums = [0u32; 64];
     for k in 0..depth {
