@@ -1,17 +1,9 @@
 /* Tile calls and state questions from C, by flat parameters and by layouts. Prints a line for each check; the status is 0 where all hold. */
+#include "check.h"
 #include <nezgrak.h>
-#include <stdio.h>
 #include <string.h>
 
 enum { GUARD = 4, WORDS = 4, WORK = 6, UNSET = 77 };
-static const uint32_t guard = 0xa5c30f69;
-static int failed = 0;
-
-static void check(const char *name, int holds)
-{
-    printf("%s %s\n", holds ? "ok" : "not ok", name);
-    failed += !holds;
-}
 
 /* A(i,k) * B(k,j) into D(i,j) by tiles, with guard words on both sides of D and of work. */
 typedef struct {

@@ -3,19 +3,14 @@
 use Prim.Native.Nat.{ℕ}
 use mathlib.Core.Bool.{cond}
 use mathlib.Core.List.{List}
-use Rattle.tiled.specs.Call.{TileAnswer, ran, refused, TileCall}
+use Rattle.tiled.specs.Call.{TileAnswer, ran, refused, doneIn, TileCall}
 
 -- the number that is returned: 0 where the call ran
 abbrev pub tileNumber : TileAnswer → ℕ
 tileNumber (ran done complete) = 0
 tileNumber (refused number done) = number
 
--- the tiles done after the call, as given where it was refused
-abbrev pub tilesDone : TileAnswer → ℕ
-tilesDone (ran done complete) = done
-tilesDone (refused number done) = done
-
--- 1 where that is the total, 0 where not, or where the call was refused
+-- 1 where the tiles done are the total, 0 where not, or where the call was refused
 abbrev pub saidComplete : TileAnswer → ℕ
 saidComplete (ran done complete) = cond complete 1 0
 saidComplete (refused number done) = 0
@@ -32,4 +27,4 @@ abbrev pub tilesReturned : ℕ → ℕ → ℕ → List ℕ → List ℕ → Fla
 tilesReturned number done complete words work = record { number = number; done = done; complete = complete; words = words; work = work }
 
 abbrev pub flatTiles : TileCall → FlatTiles
-flatTiles k = tilesReturned (tileNumber (k .answer)) (tilesDone (k .answer)) (saidComplete (k .answer)) (k .words) (k .work)
+flatTiles k = tilesReturned (tileNumber (k .answer)) (doneIn (k .answer)) (saidComplete (k .answer)) (k .words) (k .work)

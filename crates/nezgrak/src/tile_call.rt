@@ -1,9 +1,9 @@
 ghost use mathlib.Core.Path.{_≡_};
 ghost use Rattle.layout.specs.Layout.{layoutOf};
 ghost use Rattle.contraction.specs.Operands.{three, contractionOf};
-ghost use Rattle.tiled.specs.Call.{tileAnswer, tileCall};
+ghost use Rattle.tiled.specs.Call.{tileAnswer, doneIn, tileCall};
 ghost use Rattle.nezgrak.specs.Flat.{sizesOf};
-ghost use Rattle.nezgrak.specs.FlatTiles.{tileNumber, tilesDone, saidComplete, tilesReturned, flatTiles};
+ghost use Rattle.nezgrak.specs.FlatTiles.{tileNumber, saidComplete, tilesReturned, flatTiles};
 use super::made::contraction_of;
 use tiled::call::Outcome;
 use tiled::call::run;
@@ -24,7 +24,7 @@ fn number_of(outcome: Outcome) -> u32
 
 // The tiles done after the call.
 fn done_of(outcome: Outcome) -> u64
-    ensures { λ r. ⌜ r ≡ tilesDone (tileAnswer outcome) ⌝ }
+    ensures { λ r. ⌜ r ≡ doneIn (tileAnswer outcome) ⌝ }
 {
     match outcome {
         Outcome::Ran { done, complete: _ } => done,

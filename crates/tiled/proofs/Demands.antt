@@ -24,9 +24,9 @@ use Rattle.tiles.proofs.Progress.{done-down}
 use Rattle.tiles.proofs.States.{old-none, final-all}
 use Rattle.tiles.proofs.Closed.{length-closed, closed-shows, walk-closed, closed-zero}
 use Rattle.tiled.specs.Setting.{cutOf, addressAt, setting}
-use Rattle.tiled.specs.Questions.{sizeQuestion, acceptQuestions}
-use Rattle.tiled.specs.Call.{ran, refused, TileCall, gave, ranCall, tileCall, stateCall}
-use Rattle.tiled.specs.Demand.{Call, tiles, state, Answer, tiled, found, doneIn, After, run, roomy, next, answer, count, answers, Demand3}
+use Rattle.tiled.specs.Questions.{roomy, sizeQuestion, acceptQuestions}
+use Rattle.tiled.specs.Call.{doneIn, ran, refused, TileCall, gave, ranCall, tileCall, stateCall}
+use Rattle.tiled.specs.Demand.{Call, tiles, state, Answer, tiled, found, After, run, next, answer, count, answers, Demand3}
 use Rattle.tiled.proofs.Soundness.{setting-same, sound}
 use Rattle.tiled.proofs.Answered.{accepted, tile-answers, state-answers}
 
@@ -53,7 +53,7 @@ module _ (G : Cut) (t h i j : ℕ) where
 module _ (c : Contraction) (z : Sizes) where
   next-le : (x : Call) {t : ℕ} → t ≤ total (cutOf c z) → (t ≤ next c z x t) × (next c z x t ≤ total (cutOf c z))
   unfolding next
-  next-le (tiles budget work) {t} b = go (roomy c z work)
+  next-le (tiles budget work) {t} b = go (roomy z (length work))
     where
       go : (x : Bool) → (t ≤ cond x (t + min budget (total (cutOf c z) - t)) t) × (cond x (t + min budget (total (cutOf c z) - t)) t ≤ total (cutOf c z))
       go true = (omega arith, omega arith)
@@ -106,7 +106,7 @@ module _ (c : Contraction) (z : Sizes) (a b d : List ℕ) (ok : refusal (acceptQ
   tile-leaves : (budget : ℕ) (work : List ℕ) (t : ℕ) → t ≤ total (cutOf c z)
       → Leaves (tileCall c z (three a b (at t)) work t budget) (answer c z (tiles budget work) t) (next c z (tiles budget work) t)
   unfolding answer next ranCall
-  tile-leaves budget work t h = rw (tile-answers c z (three a b (at t)) work t budget (still t) h) (go (roomy c z work))
+  tile-leaves budget work t h = rw (tile-answers c z (three a b (at t)) work t budget (still t) h) (go (roomy z (length work)))
     where
       new : Bool → ℕ
       new x = cond x (t + min budget (total (cutOf c z) - t)) t

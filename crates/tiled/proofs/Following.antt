@@ -6,7 +6,7 @@ use mathlib.Core.Bool.{true}
 use mathlib.Core.List.{List, [], _∷_, _++_}
 use Prim.Native.Nat.{ℕ, _≤_, zero-le}
 use native.Mathlib.Omega.{arith}
-use lib.ListN.{getD}
+use lib.ListN.{length, getD}
 use Rattle.contraction.specs.declared.contraction.Contraction.{Contraction}
 use Rattle.contraction.specs.Operands.{three}
 use Rattle.contraction.specs.Questions.{refusal}
@@ -15,8 +15,8 @@ use Rattle.tiles.specs.Cut.{total}
 use Rattle.tiles.specs.Setting.{closed}
 use Rattle.tiles.proofs.PanelWords.{final-word}
 use Rattle.tiled.specs.Setting.{cutOf, addressAt, setting}
-use Rattle.tiled.specs.Questions.{acceptQuestions}
-use Rattle.tiled.specs.Demand.{Call, tiles, run, roomy, next, count, Consequences}
+use Rattle.tiled.specs.Questions.{roomy, acceptQuestions}
+use Rattle.tiled.specs.Demand.{Call, tiles, run, next, count, Consequences}
 use Rattle.tiled.proofs.Soundness.{closed-result}
 use Rattle.tiled.proofs.Answered.{accepted}
 use Rattle.tiled.proofs.Demands.{count-le, words-closed, demand3}
@@ -35,7 +35,7 @@ module _ (c : Contraction) (z : Sizes) (a b d : List ℕ) (ok : refusal (acceptQ
       words-closed c z a b d ok calls ∙ ap (λ (n : ℕ). closed (setting c z (three a b d)) n d) e ∙ sym (words-closed c z a b d ok others)
 
   -- one call with the budget n comes to n
-  one-count : (n : ℕ) (work : List ℕ) → n ≤ total (cutOf c z) → roomy c z work ≡ true → n ≡ count c z (tiles n work ∷ []) 0
+  one-count : (n : ℕ) (work : List ℕ) → n ≤ total (cutOf c z) → roomy z (length work) ≡ true → n ≡ count c z (tiles n work ∷ []) 0
   unfolding count next
   one-count n work h e = rw e (omega (arith, h))
 

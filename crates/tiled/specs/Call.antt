@@ -23,6 +23,11 @@ pub data TileAnswer : Type 0 where
   ran : (done : ℕ) (complete : Bool) → TileAnswer
   refused : (number done : ℕ) → TileAnswer
 
+-- the tiles done that it says
+abbrev pub doneIn : TileAnswer → ℕ
+doneIn (ran done complete) = done
+doneIn (refused number done) = done
+
 -- a state, or the number of the question that refused
 pub data StateAnswer : Type 0 where
   is : State → StateAnswer

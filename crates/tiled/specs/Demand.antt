@@ -1,11 +1,11 @@
 -- Demand 3: one claim about a whole list of calls on one accepted contraction, from no tile done and any words of D.
 -- Assumes nothing.
-use Prim.Native.Nat.{ℕ, _+_, _-_, _*_, _≤_, _<_, min}
+use Prim.Native.Nat.{ℕ, _+_, _-_, _≤_, _<_, min}
 use mathlib.Core.Path.{_≡_}
 use mathlib.Core.Logic.{_≢_, _↔_}
-use mathlib.Core.Bool.{Bool, true, false, cond, _&&_}
+use mathlib.Core.Bool.{true, false, cond}
 use mathlib.Core.List.{List, [], _∷_, _++_}
-use lib.Dec.{eqb, leb, ltb}
+use lib.Dec.{eqb}
 use lib.ListN.{length, getD}
 use Rattle.contraction.specs.declared.contraction.Contraction.{Contraction}
 use Rattle.contraction.specs.Operands.{three}
@@ -15,7 +15,8 @@ use Rattle.tiles.specs.Cut.{KB, total}
 use Rattle.tiles.specs.Progress.{old, final, done, stateAt}
 use Rattle.tiles.specs.Setting.{wordAt}
 use Rattle.tiled.specs.Setting.{cutOf, addressAt, setting}
-use Rattle.tiled.specs.Call.{TileAnswer, ran, refused, StateAnswer, is, unasked, tileCall, stateCall}
+use Rattle.tiled.specs.Questions.{roomy, isIndex}
+use Rattle.tiled.specs.Call.{TileAnswer, ran, refused, doneIn, StateAnswer, is, unasked, tileCall, stateCall}
 
 pub data Call : Type 0 where
   tiles : (budget : ℕ) (work : List ℕ) → Call  -- a tile call, with its own budget and work slice
@@ -24,11 +25,6 @@ pub data Call : Type 0 where
 pub data Answer : Type 0 where
   tiled : TileAnswer → Answer
   found : StateAnswer → Answer
-
--- the tiles done that a tile call answers
-abbrev pub doneIn : TileAnswer → ℕ
-doneIn (ran t complete) = t
-doneIn (refused number t) = t
 
 -- after calls: what they answered, the tiles done, and D's words
 pub record After : Type 0 where
@@ -50,23 +46,16 @@ module _ (c : Contraction) (z : Sizes) (a b : List ℕ) where
 
 -- ---- t and the answers follow the calls' arguments alone
 module _ (c : Contraction) (z : Sizes) where
-  -- is a work slice large enough?
-  abbrev pub roomy : List ℕ → Bool
-  roomy work = leb (z .rows * z .depth + z .depth * z .cols) (length work)
-
-  abbrev pub isIndex : ℕ → ℕ → ℕ → Bool
-  isIndex h i j = ltb h (cutOf c z .H) && (ltb i (cutOf c z .M) && ltb j (cutOf c z .N))
-
   -- a tile call adds the smaller of its budget and total - t; one that is refused, and a state question, leave t as it was
   unfoldable pub next : Call → ℕ → ℕ
-  next (tiles budget work) t = cond (roomy work) (t + min budget (total (cutOf c z) - t)) t
+  next (tiles budget work) t = cond (roomy z (length work)) (t + min budget (total (cutOf c z) - t)) t
   next (state h i j) t = t
 
   -- a tile call answers the new t and whether that is the total, or 11; a state question the state at t, or 13
   unfoldable pub answer : Call → ℕ → Answer
   answer (tiles budget work) t =
-      tiled (cond (roomy work) (ran (next (tiles budget work) t) (eqb (next (tiles budget work) t) (total (cutOf c z)))) (refused 11 t))
-  answer (state h i j) t = found (cond (isIndex h i j) (is (stateAt (cutOf c z) t h i j)) (unasked 13))
+      tiled (cond (roomy z (length work)) (ran (next (tiles budget work) t) (eqb (next (tiles budget work) t) (total (cutOf c z)))) (refused 11 t))
+  answer (state h i j) t = found (cond (isIndex (cutOf c z) h i j) (is (stateAt (cutOf c z) t h i j)) (unasked 13))
 
   unfoldable pub count : List Call → ℕ → ℕ
   count [] t = t
@@ -103,7 +92,7 @@ pub record Consequences (c : Contraction) (z : Sizes) (a b d : List ℕ) : Type 
   -- calls that come to the same count leave the same words
   pub any-cutting : (calls others : List Call) → count c z calls 0 ≡ count c z others 0 → run c z a b calls 0 d .words ≡ run c z a b others 0 d .words
   -- so a run that is cut into any calls leaves what one call with the budget of all leaves
-  pub one-call : (calls : List Call) (work : List ℕ) → roomy c z work ≡ true
+  pub one-call : (calls : List Call) (work : List ℕ) → roomy z (length work) ≡ true
       → run c z a b calls 0 d .words ≡ run c z a b (tiles (count c z calls 0) work ∷ []) 0 d .words
   -- a final word never changes again
   pub final-stays : (calls more : List Call) (h i j : ℕ) → h < cutOf c z .H → i < cutOf c z .M → j < cutOf c z .N

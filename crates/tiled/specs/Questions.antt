@@ -25,16 +25,22 @@ unfoldable pub sizeQuestion : Sizes → List Question
 sizeQuestion z = ask 10 (sizesFit z) ∷ []
 
 -- 11: has work at least rows × depth + depth × cols words?
+abbrev pub roomy : Sizes → ℕ → Bool
+roomy z room = leb (z .rows * z .depth + z .depth * z .cols) room
+
 unfoldable pub roomQuestion : Sizes → ℕ → List Question
-roomQuestion z room = ask 11 (leb (z .rows * z .depth + z .depth * z .cols) room) ∷ []
+roomQuestion z room = ask 11 (roomy z room) ∷ []
 
 -- 12: is the tiles-done count at most the total?
 unfoldable pub doneQuestion : Cut → ℕ → List Question
 doneQuestion G t = ask 12 (leb t (total G)) ∷ []
 
 -- 13: is each of the three counts below its group's size?
+abbrev pub isIndex : Cut → ℕ → ℕ → ℕ → Bool
+isIndex G h i j = ltb h (G .H) && (ltb i (G .M) && ltb j (G .N))
+
 unfoldable pub indexQuestion : Cut → ℕ → ℕ → ℕ → List Question
-indexQuestion G h i j = ask 13 (ltb h (G .H) && (ltb i (G .M) && ltb j (G .N))) ∷ []
+indexQuestion G h i j = ask 13 (isIndex G h i j) ∷ []
 
 module _ (c : Contraction) (z : Sizes) (w : Slices) where
   -- 1 to 10: a contraction that passes them is accepted

@@ -8,14 +8,14 @@ use Rattle.contraction.specs.declared.contraction.Contraction.{Contraction}
 use Rattle.contraction.specs.Meaning.{Slices}
 use Rattle.tiles.specs.declared.grid.Sizes.{Sizes}
 use Rattle.tiled.specs.declared.call.Outcome.{Outcome}
-use Rattle.tiled.specs.Call.{tileAnswer, gave, tileCall}
-use Rattle.nezgrak.specs.FlatTiles.{tileNumber, tilesDone, saidComplete, tilesReturned, flatTiles}
+use Rattle.tiled.specs.Call.{tileAnswer, doneIn, gave, tileCall}
+use Rattle.nezgrak.specs.FlatTiles.{tileNumber, saidComplete, tilesReturned, flatTiles}
 use Rattle.nezgrak.proofs.tile_call.nezgrak_run_tiles.Statement.{statement}
 use Rattle.nezgrak.proofs.tile_call.nezgrak_run_tiles.Tie as tie
 
 -- what the tile call gives is handed on
 handed : (c c′ : Contraction) (z : Sizes) (w : Slices) (o : Outcome) (work : List ℕ) (t budget : ℕ) {r done complete : ℕ} {words last : List ℕ} → c ≡ c′
-    → r ≡ tileNumber (tileAnswer o) → done ≡ tilesDone (tileAnswer o) → complete ≡ saidComplete (tileAnswer o)
+    → r ≡ tileNumber (tileAnswer o) → done ≡ doneIn (tileAnswer o) → complete ≡ saidComplete (tileAnswer o)
     → gave (tileAnswer o) words last ≡ tileCall c z w work t budget
     → tilesReturned r done complete words last ≡ flatTiles (tileCall c′ z w work t budget)
 handed c c′ z w o work t budget {words = words} {last = last} e r d f g =
