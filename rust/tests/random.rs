@@ -3,9 +3,8 @@
 mod common;
 
 use common::call::check;
-use common::case::{Case, Tensor};
 use common::make::{accepted, spoil, Kind};
-use common::questions::labels;
+use common::notes::{note_factors, note_labels, note_strides};
 use common::rng::Rng;
 use common::seen::Seen;
 
@@ -40,61 +39,4 @@ fn random_contractions() {
     }
     seen.at_least("answer 0", 20_000);
     seen.each_at_least(55, 250);
-}
-
-fn note_factors(seen: &mut Seen, case: &Case) {
-    for (name, factor) in [("alpha", case.alpha), ("beta", case.beta)] {
-        for value in [0, 1, u32::MAX] {
-            seen.note(&format!("{name} {value}"), factor == value);
-        }
-        seen.note(&format!("{name} of another value"), (2..u32::MAX).contains(&factor));
-    }
-}
-
-/// Which tensors have a label, ranks, repeats, extents of 1 and the two cases of a letter.
-fn note_labels(seen: &mut Seen, case: &Case) {
-    let all = labels(&case.tensors());
-    let has = |t: &Tensor, letter: u8| t.letters.contains(&letter);
-    for sort in 1..8 {
-        let of_sort =
-            |letter: &u8| case.tensors().iter().enumerate().all(|(n, t)| has(t, *letter) == (sort >> n & 1 == 1));
-        let tensors: String = "ABD".chars().enumerate().filter(|(n, _)| sort >> n & 1 == 1).map(|(_, c)| c).collect();
-        let large = all.iter().filter(|(_, extent)| **extent > 1);
-        seen.note(&format!("label in {tensors} only"), large.map(|(letter, _)| letter).any(of_sort));
-    }
-    for (name, t) in ["A", "B", "D"].iter().zip(case.tensors()) {
-        seen.note(&format!("rank 0 of {name}"), t.letters.is_empty());
-        seen.note(&format!("rank 8 of {name}"), t.letters.len() == 8);
-        seen.note(&format!("repeated letter in {name}"), labels(&[t]).len() < t.letters.len());
-        seen.note(&format!("extent 1 in {name}"), t.extents.contains(&1));
-    }
-    let both = all.keys().any(|letter| letter.is_ascii_lowercase() && all.contains_key(&letter.to_ascii_uppercase()));
-    seen.note("letter in both cases", both);
-}
-
-/// Negative strides, strides of 0, large strides and words, gaps, and words that are read twice.
-fn note_strides(seen: &mut Seen, case: &Case) {
-    for (name, t) in ["A", "B", "D"].iter().zip(case.tensors()) {
-        let of_large = || t.strides.iter().zip(&t.extents).filter(|(_, extent)| **extent > 1).map(|(stride, _)| stride);
-        seen.note(&format!("negative stride in {name}"), of_large().any(|stride| *stride < 0));
-        seen.note(&format!("large stride in {name}"), t.strides.iter().any(|stride| stride.abs() > 1 << 20));
-        let points: usize = labels(&[t]).values().map(|extent| *extent as usize).product();
-        seen.note(&format!("unaddressed word in {name}"), points < t.words.len());
-        seen.note(&format!("large word in {name}"), t.words.iter().any(|word| *word > 1 << 31));
-        if *name == "D" {
-            continue;
-        }
-        seen.note(&format!("stride 0 in {name}"), of_large().any(|stride| *stride == 0));
-        seen.note(&format!("shared word in {name}"), points > t.words.len());
-    }
-    seen.note("labels that fold", labels_fold(case));
-}
-
-/// Does some label, in every tensor, go on where another ends? A tensor without a label has stride 0 there.
-fn labels_fold(case: &Case) -> bool {
-    let all: Vec<_> = labels(&case.tensors()).into_iter().filter(|(_, extent)| *extent > 1).collect();
-    let goes_on = |(x, extent): (u8, u32), y: u8| {
-        x != y && case.tensors().iter().all(|t| t.stride(y) == i64::from(extent) * t.stride(x))
-    };
-    all.iter().any(|x| all.iter().any(|y| goes_on(*x, y.0)))
 }

@@ -49,11 +49,11 @@ as-label x h c =
     rw (ap (extentOf c) (h .all))
     (ap (λ (f : Operand → ℤ). record { letter = c; extent = extentOf c (together (shapeOf x)); stride = f }) (fun-ext same))
   where
-    word : (o : Operand) → signed (wordOf 64 (strideOf c (shapeOf x o))) ≡ strideOf c (shapeOf x o)
+    word : (o : Operand) → signed 64 (wordOf 64 (strideOf c (shapeOf x o))) ≡ strideOf c (shapeOf x o)
     word o = signed-stride (axesIn x o) (h .each o .few) (h .each o .strides) c
 
     same : (o : Operand)
-        → three (signed (wordOf 64 (strideOf c (listed (x .a))))) (signed (wordOf 64 (strideOf c (listed (x .b))))) (signed (wordOf 64 (strideOf c (listed (x .d))))) o
+        → three (signed 64 (wordOf 64 (strideOf c (listed (x .a))))) (signed 64 (wordOf 64 (strideOf c (listed (x .b))))) (signed 64 (wordOf 64 (strideOf c (listed (x .d))))) o
         ≡ strideOf c (shapeOf x o)
     same A = word A
     same B = word B

@@ -77,7 +77,7 @@ offsetIn part o = offset (λ l. part (l .stride o))
 
 -- a label as code holds it, its strides as 64-bit address words
 abbrev pub asLabel : Dim → Label
-asLabel x = record { letter = x .letter; extent = x .extent; stride = three (signed (x .a)) (signed (x .b)) (signed (x .d)) }
+asLabel x = record { letter = x .letter; extent = x .extent; stride = three (signed 64 (x .a)) (signed 64 (x .b)) (signed 64 (x .d)) }
 
 abbrev pub noDim : Dim
 noDim = record { letter = 0; extent = 0; a = 0; b = 0; d = 0 }

@@ -11,8 +11,8 @@ use super::groups::Group;
 
 // Is the stride that of the label before times that one's extent? Strides are address words.
 fn follows(extent: u32, before: u64, stride: u64) -> bool
-    requires { ⌜ natAbs (signed before) < 2 ^ 30 ⌝ }
-    ensures { λ r. ⌜ r ≡ eqℤ (signed stride) (pos extent *ℤ signed before) ⌝ }
+    requires { ⌜ natAbs (signed 64 before) < 2 ^ 30 ⌝ }
+    ensures { λ r. ⌜ r ≡ eqℤ (signed 64 stride) (pos extent *ℤ signed 64 before) ⌝ }
 {
     let times = extent as u64;
     let up = times * words::up(before);

@@ -51,7 +51,7 @@ unfolding listed
 length-listed x = length-tabulate (x .count) (λ i. getD (x .items) i noAxis)
 
 -- how far a small number's word, read as signed, goes up and down adds up to the number's size
-pub word-size : (s : ℤ) → natAbs s < 2 ^ 63 → {w u d : ℕ} → w ≡ wordOf 64 s → u ≡ up (signed w) → d ≡ down (signed w) → u + d ≡ natAbs s
+pub word-size : (s : ℤ) → natAbs s < 2 ^ 63 → {w u d : ℕ} → w ≡ wordOf 64 s → u ≡ up (signed 64 w) → d ≡ down (signed 64 w) → u + d ≡ natAbs s
 word-size s h p q r = rw (q, r, p, signed-word s h) (sym (size-parts s))
 
 module _ (x : Axes) (few : x .count ≤ 24) (valid : T (stridesValid (listed x))) (c : ℕ) where
@@ -59,7 +59,7 @@ module _ (x : Axes) (few : x .count ≤ 24) (valid : T (stridesValid (listed x))
   small-stride = omega (arith, strides-bound (listed x) valid c, length-listed x)
 
   -- a label's stride is what its address word reads as
-  pub signed-stride : signed (wordOf 64 (strideOf c (listed x))) ≡ strideOf c (listed x)
+  pub signed-stride : signed 64 (wordOf 64 (strideOf c (listed x))) ≡ strideOf c (listed x)
   signed-stride = signed-word (strideOf c (listed x)) (omega (arith, small-stride))
 
   pub small-up : up (strideOf c (listed x)) < 2 ^ 32

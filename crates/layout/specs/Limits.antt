@@ -36,6 +36,12 @@ depthLimit = 128
 abbrev pub blockLimit : ℕ  -- offsets of a block of rows or columns
 blockLimit = 64
 
+abbrev pub jobLimit : ℕ  -- words of a tensor in a job file
+jobLimit = 4096
+
+abbrev pub workRoom : ℕ  -- words of the job program's work slice
+workRoom = 16384
+
 abbrev pub limits : Limits
 limits =
     record {
@@ -50,4 +56,6 @@ limits =
       cols = colsLimit;
       depth = depthLimit;
       block = blockLimit;
+      job = jobLimit;
+      work = workRoom;
     }

@@ -20,8 +20,8 @@ pub struct Reach {
 impl Reach {
     // The reach with one label more.
     fn with(self, extent: u32, stride: u64) -> Reach
-        requires { ⌜ (self .up < 2 ^ 60) × (self .down < 2 ^ 60) × (extent ≤ extentLimit) × (up (signed stride) < 2 ^ 32) × (down (signed stride) < 2 ^ 32) ⌝ }
-        ensures { λ r. ⌜ (r .up ≡ (extent - 1) * up (signed stride) + self .up) × (r .down ≡ (extent - 1) * down (signed stride) + self .down) ⌝ }
+        requires { ⌜ (self .up < 2 ^ 60) × (self .down < 2 ^ 60) × (extent ≤ extentLimit) × (up (signed 64 stride) < 2 ^ 32) × (down (signed 64 stride) < 2 ^ 32) ⌝ }
+        ensures { λ r. ⌜ (r .up ≡ (extent - 1) * up (signed 64 stride) + self .up) × (r .down ≡ (extent - 1) * down (signed 64 stride) + self .down) ⌝ }
     {
         let last = last_index(extent);
         let above = last * words::up(stride);

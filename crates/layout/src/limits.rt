@@ -14,6 +14,8 @@ pub struct Limits {
     pub cols: usize,
     pub depth: usize,
     pub block: usize,
+    pub job: usize,
+    pub work: usize,
 }
 
 impl Limits {
@@ -38,6 +40,10 @@ impl Limits {
     pub const DEPTH: usize = 128;
     // The offsets of a block of rows or columns.
     pub const BLOCK: usize = 64;
+    // The words of a tensor in a job file.
+    pub const JOB: usize = 4096;
+    // The words of the job program's work slice.
+    pub const WORK: usize = 16384;
 
     // The constants are those that the definitions name.
     pub fn all() -> Limits
@@ -55,6 +61,8 @@ impl Limits {
             cols: Limits::COLS,
             depth: Limits::DEPTH,
             block: Limits::BLOCK,
+            job: Limits::JOB,
+            work: Limits::WORK,
         }
     }
 }

@@ -10,7 +10,7 @@ use lib.Dec.{eqb, leb, ltb}
 use lib.ListN.{length}
 use borrow.Author.Tests.{le-leb}
 use Rattle.contraction.specs.declared.contraction.Contraction.{Contraction}
-use Rattle.contraction.specs.Operands.{Operand, D, three, tensors, lengths}
+use Rattle.contraction.specs.Operands.{Operand, A, B, D, three, tensors, lengths}
 use Rattle.contraction.specs.Questions.{Question, refusal, eachTensor, allLabels, entries, layoutQuestions}
 use Rattle.contraction.specs.Meaning.{Slices}
 use Rattle.contraction.proofs.Refusal.{Numbered, passed, refusal-next, refusal-first, refusal-both, answers-no, answers-yes}
@@ -29,8 +29,20 @@ pub asked : (c : Contraction) (z : Sizes) (a b d : List ℕ) {k : ℕ} → k ≡
 unfolding acceptQuestions
 asked c z a b d e = e ∙ ap (λ (n : Operand → ℕ). refusal (layoutQuestions (tensors c) n ++ sizeQuestion z)) (slice-lengths a b d)
 
+-- of D's slice they read the length alone
+pub same-questions : (c : Contraction) (z : Sizes) (a b d e : List ℕ) → length e ≡ length d
+    → refusal (acceptQuestions c z (three a b e)) ≡ refusal (acceptQuestions c z (three a b d))
+unfolding acceptQuestions
+same-questions c z a b d e same = ap (λ (n : Operand → ℕ). refusal (layoutQuestions (tensors c) n ++ sizeQuestion z)) (λ k o. lengths-same o k)
+  where
+    lengths-same : (o : Operand) → length (three a b e o) ≡ length (three a b d o)
+    lengths-same A = refl
+    lengths-same B = refl
+    lengths-same D = same
+
 module _ (c : Contraction) (z : Sizes) (w : Slices) where
-  numbered : Numbered (acceptQuestions c z w)
+  -- none of their numbers is 0
+  pub numbered : Numbered (acceptQuestions c z w)
   unfolding acceptQuestions layoutQuestions eachTensor allLabels entries sizeQuestion
   numbered = tt
 

@@ -6,15 +6,15 @@
 use mathlib.Core.Path.{_≡_, refl, sym, ap, _∙_}
 use mathlib.Core.Logic.{_↔_}
 use mathlib.Core.Bool.{Bool, true, false, cond}
-use mathlib.Core.List.{List, [], _∷_, _++_}
+use mathlib.Core.List.{List, [], _∷_}
 use Prim.Native.Nat.{ℕ, _+_, _-_, _≤_, zero-le, min}
 use native.Mathlib.Nat.{le-refl, le-trans}
 use native.Mathlib.Omega.{arith}
 use lib.Dec.{eqb}
 use lib.ListN.{length, getD}
 use Rattle.contraction.specs.declared.contraction.Contraction.{Contraction}
-use Rattle.contraction.specs.Operands.{Operand, A, B, D, three, tensors}
-use Rattle.contraction.specs.Questions.{refusal, layoutQuestions}
+use Rattle.contraction.specs.Operands.{three}
+use Rattle.contraction.specs.Questions.{refusal}
 use Rattle.tiles.specs.declared.grid.Sizes.{Sizes}
 use Rattle.tiles.specs.Cut.{Cut, KB, total}
 use Rattle.tiles.specs.Progress.{old, final, done, stateAt}
@@ -24,11 +24,11 @@ use Rattle.tiles.proofs.Progress.{done-down}
 use Rattle.tiles.proofs.States.{old-none, final-all}
 use Rattle.tiles.proofs.Closed.{length-closed, closed-shows, walk-closed, closed-zero}
 use Rattle.tiled.specs.Setting.{cutOf, addressAt, setting}
-use Rattle.tiled.specs.Questions.{roomy, sizeQuestion, acceptQuestions}
+use Rattle.tiled.specs.Questions.{roomy, acceptQuestions}
 use Rattle.tiled.specs.Call.{doneIn, ran, refused, TileCall, gave, ranCall, tileCall, stateCall}
 use Rattle.tiled.specs.Demand.{Call, tiles, state, Answer, tiled, found, After, run, next, answer, count, answers, Demand3}
 use Rattle.tiled.proofs.Soundness.{setting-same, sound}
-use Rattle.tiled.proofs.Answered.{accepted, tile-answers, state-answers}
+use Rattle.tiled.proofs.Answered.{same-questions, accepted, tile-answers, state-answers}
 
 -- ---- the state by one panel: the panels done are the first ones
 
@@ -84,13 +84,7 @@ module _ (c : Contraction) (z : Sizes) (a b d : List ℕ) (ok : refusal (acceptQ
 
   -- acceptance reads the length of D's slice only
   still : (t : ℕ) → refusal (acceptQuestions c z (three a b (at t))) ≡ 0
-  unfolding acceptQuestions
-  still t = ap (λ (n : Operand → ℕ). refusal (layoutQuestions (tensors c) n ++ sizeQuestion z)) (λ k o. same o k) ∙ ok
-    where
-      same : (o : Operand) → length (three a b (at t) o) ≡ length (three a b d o)
-      same A = refl
-      same B = refl
-      same D = length-closed S t d
+  still t = same-questions c z a b d (at t) (length-closed S t d) ∙ ok
 
   -- ---- one call, from the closed form at t
 

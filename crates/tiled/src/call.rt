@@ -31,7 +31,7 @@ pub enum Found {
 }
 
 // The grid of a plan's groups.
-fn grid_of(p: Plan, z: Sizes) -> Grid
+pub fn grid_of(p: Plan, z: Sizes) -> Grid
     requires { ⌜ PlanFits p z ⌝ }
     ensures { λ r. ⌜ GridOf p r × (r .sizes ≡ z) ⌝ }
 {

@@ -70,14 +70,14 @@ wordOf-lt (pos n) h = omega arith
 wordOf-lt (negsuc n) h = omega arith
 
 -- a small number is what its word reads as
-pub signed-word : (s : ℤ) → natAbs s < 2 ^ 63 → signed (wordOf 64 s) ≡ s
+pub signed-word : (s : ℤ) → natAbs s < 2 ^ 63 → signed 64 (wordOf 64 s) ≡ s
 signed-word (pos n) h = rw (lt-ltb n (2 ^ 63) h)
 signed-word (negsuc n) h =
     let e : (2 ^ 64 - 1) - (2 ^ 64 - suc n) ≡ n = omega arith in
     rw (le-ltb (2 ^ 64 - suc n) (2 ^ 63) (omega arith), e)
 
 -- a word is that of the number that it reads as
-pub word-signed : (x : ℕ) → x < 2 ^ 64 → wordOf 64 (signed x) ≡ x
+pub word-signed : (x : ℕ) → x < 2 ^ 64 → wordOf 64 (signed 64 x) ≡ x
 word-signed x h = go (ltb x (2 ^ 63))
   where
     go : (c : Bool) → wordOf 64 (cond c (pos x) (negsuc ((2 ^ 64 - 1) - x))) ≡ x

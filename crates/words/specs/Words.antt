@@ -23,6 +23,6 @@ abbrev pub wordOf : ℕ → ℤ → ℕ
 wordOf w (pos n) = n
 wordOf w (negsuc n) = 2 ^ w - suc n
 
--- a 64-bit word read as signed
-abbrev pub signed : ℕ → ℤ
-signed x = cond (ltb x (2 ^ 63)) (pos x) (negsuc ((2 ^ 64 - 1) - x))
+-- a word of w bits read as signed
+abbrev pub signed : ℕ → ℕ → ℤ
+signed w x = cond (ltb x (2 ^ (w - 1))) (pos x) (negsuc ((2 ^ w - 1) - x))

@@ -27,16 +27,27 @@ pub fn address_word(s: i32) -> u64
     if s < 0 { !((!s) as u64) } else { s as u64 }
 }
 
+// A 32-bit word read as signed.
+pub fn signed(x: u32) -> i32
+    ensures { λ r. ⌜ r ≡ signed 32 x ⌝ }
+{
+    if x < 2147483648 {
+        x as i32
+    } else {
+        !((4294967295 - x) as i32)
+    }
+}
+
 // How far an address word, read as signed, goes up.
 pub fn up(x: u64) -> u64
-    ensures { λ r. ⌜ r ≡ up (signed x) ⌝ }
+    ensures { λ r. ⌜ r ≡ up (signed 64 x) ⌝ }
 {
     if x < 9223372036854775808 { x } else { 0 }
 }
 
 // How far an address word, read as signed, goes down.
 pub fn down(x: u64) -> u64
-    ensures { λ r. ⌜ r ≡ down (signed x) ⌝ }
+    ensures { λ r. ⌜ r ≡ down (signed 64 x) ⌝ }
 {
     if x < 9223372036854775808 {
         0

@@ -3,6 +3,7 @@
 //! `questions` and `direct` are the model of the plain call; `groups` and `panels` add that of the tile calls. They
 //! follow the rules word by word, by the slowest and plainest means, and share neither code nor shape with the engine:
 //! the sum knows no groups, and where tiles need counts of groups nothing is folded, packed or run tile by tile.
+//! `job_model` adds the reading of a job file and the text that answers it.
 
 #![allow(dead_code)] // Each test file is a program of its own and uses a part of this.
 
@@ -14,16 +15,23 @@ pub mod direct;
 /// The archive's calls by their flat parameters, which show what the safe calls hide where a question refuses.
 #[path = "../../src/ffi.rs"]
 pub mod ffi;
+pub mod flaws;
 pub mod formula;
 pub mod groups;
 pub mod guard;
+pub mod job;
+pub mod job_make;
+pub mod job_model;
 pub mod json;
 pub mod lent;
 pub mod list;
 pub mod make;
+pub mod notes;
 pub mod panels;
+pub mod program;
 pub mod questions;
 pub mod request;
 pub mod rng;
 pub mod seen;
+pub mod temp_file;
 pub mod tile_call;

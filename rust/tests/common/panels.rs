@@ -46,8 +46,12 @@ impl Model {
         };
         let Cut { depth, tile_depth, panels, .. } = self.cut;
         let panel_sum = |panel| (panel * tile_depth..depth.min((panel + 1) * tile_depth)).map(term).sum();
-        let place = address(&self.case.d, &self.groups.values(batch, row, column, 0)) as usize;
-        Output { index, place, panel_sums: (0..panels).map(panel_sum).collect() }
+        Output { index, place: self.place(index), panel_sums: (0..panels).map(panel_sum).collect() }
+    }
+
+    /// The place in D's slice of an output index.
+    pub fn place(&self, index: OutputIndex) -> usize {
+        address(&self.case.d, &self.groups.values(index.batch, index.row, index.column, 0)) as usize
     }
 
     /// The number of the tile that brings a panel to an output index.

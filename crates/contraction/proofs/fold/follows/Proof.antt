@@ -18,7 +18,7 @@ up-requires c κs = search needs
 mul-up : tie.Need-mul-up
 mul-up c =
     let a = c .before .args in
-    let h : c .up .result < 2 ^ 32 = omega (arith, c .up .ensures, size-parts (signed (a .before)), c .before .pre) in
+    let h : c .up .result < 2 ^ 32 = omega (arith, c .up .ensures, size-parts (signed 64 (a .before)), c .before .pre) in
     record { fits = product-lt 32 (c .before .fits .extent .fits) h }
 
 down-requires : tie.Need-down-requires
@@ -27,7 +27,7 @@ down-requires c κs = search needs
 mul-down : tie.Need-mul-down
 mul-down c =
     let a = c .before .before .args in
-    let h : c .down .result < 2 ^ 32 = omega (arith, c .down .ensures, size-parts (signed (a .before)), c .before .before .pre) in
+    let h : c .down .result < 2 ^ 32 = omega (arith, c .down .ensures, size-parts (signed 64 (a .before)), c .before .before .pre) in
     record { fits = product-lt 32 (c .before .before .fits .extent .fits) h }
 
 up-requires-2 : tie.Need-up-requires-2
@@ -39,7 +39,7 @@ down-requires-2 c κs = search needs
 returns : tie.Need-returns
 returns c =
     let a = c .before .before .before .before .args in
-    let b = signed (a .before) in
+    let b = signed 64 (a .before) in
     rw (
       c .before .up2 .ensures,
       c .before .before .before .up .ensures,
@@ -48,7 +48,7 @@ returns c =
       ← up-mul (a .extent) b,
       ← down-mul (a .extent) b,
     )
-    (eq-parts (signed (a .stride)) (pos (a .extent) *ℤ b))
+    (eq-parts (signed 64 (a .stride)) (pos (a .extent) *ℤ b))
 
 pub follows-spec : {M : Type 1} → statement M
 follows-spec =

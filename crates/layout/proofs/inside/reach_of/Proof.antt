@@ -35,10 +35,10 @@ letter-at c = getD (c .before .before .before .letters-of .result .letters) (c .
 
 record Label (x : Axes) (d extent word : ℕ) : Type 0 where
   extent-is : extent ≡ extentOf d (listed x)
-  word-is : signed word ≡ strideOf d (listed x)
+  word-is : signed 64 word ≡ strideOf d (listed x)
   short : extent ≤ extentLimit
-  up-lt : up (signed word) < 2 ^ 32
-  down-lt : down (signed word) < 2 ^ 32
+  up-lt : up (signed 64 word) < 2 ^ 32
+  down-lt : down (signed 64 word) < 2 ^ 32
 
 label : (c : tie.After-stride-of Inv-loop μ-loop)
     → Label (c .before .before .before .before .before .before .args .x) (letter-at (c .before .before)) (c .before .extent-of .result) (c .stride-of .result)
@@ -46,7 +46,7 @@ label c =
     let x = c .before .before .before .before .before .before .args .x in
     let ok = c .before .before .before .before .before .before .pre in
     let d = letter-at (c .before .before) in
-    let w : signed (c .stride-of .result) ≡ strideOf d (listed x) = rw (c .stride-of .ensures) (signed-stride x (ok .few) (ok .strides) d) in
+    let w : signed 64 (c .stride-of .result) ≡ strideOf d (listed x) = rw (c .stride-of .ensures) (signed-stride x (ok .few) (ok .strides) d) in
     record {
       extent-is = c .before .extent-of .ensures;
       word-is = w;
@@ -90,7 +90,7 @@ loop-again c =
     let l = c .before .before .before .before .loop in
     let w = label (c .before) in
     let e = c .before .before .extent-of .result in
-    let s = signed (c .before .stride-of .result) in
+    let s = signed 64 (c .before .stride-of .result) in
     let before = from-before 0 (all .letters) (all .count) (l .i) (omega arith) (omega arith) in (
       omega arith,
       rw (c .with .ensures .0, w .extent-is, w .word-is, l .inv .1, before),

@@ -10,7 +10,7 @@ use Rattle.contraction.proofs.OffsetWords.{by-words}
 use Rattle.contraction.proofs.offsets.Offsets.along.Statement.{statement}
 use Rattle.contraction.proofs.offsets.Offsets.along.Tie as tie
 
-scaled : (v x : ℕ) {r : ℕ} → x < 2 ^ 64 → r ≡ v * x % 2 ^ 64 → r ≡ word 64 (v * wordOf 64 (signed x))
+scaled : (v x : ℕ) {r : ℕ} → x < 2 ^ 64 → r ≡ v * x % 2 ^ 64 → r ≡ word 64 (v * wordOf 64 (signed 64 x))
 scaled v x h e = e ∙ ap (λ (y : ℕ). word 64 (v * y)) (sym (word-signed x h))
 
 scale-requires : tie.Need-scale-requires

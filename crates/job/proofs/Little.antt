@@ -1,0 +1,95 @@
+-- Little-endian numbers of a file, by their bytes, and slices that a loop fills in order.
+-- Assumes nothing.
+use mathlib.Core.Path.{_≡_, refl, sym, _∙_}
+use mathlib.Core.Bool.{Bool, true, false}
+use mathlib.Core.List.{List, [], _∷_, _++_, map, append-nil}
+use Prim.Native.Nat.{ℕ, zero, suc, _+_, _*_, _-_, _^_, _<_, _≤_}
+use native.Mathlib.Nat.{pow-succ'}
+use native.Mathlib.Numerals.{add-one}
+use native.Mathlib.Omega.{arith}
+use lib.Dec.{leb}
+use lib.ListN.{length, getD, set, take, drop, length-set, length-drop}
+use lib.Seq.{ext-getD, getD-take, getD-drop, length-take-le, set-at, drop-cons, append-snoc, drop-length}
+use borrow.Author.Tests.{leb-true, leb-false, le-leb, lt-leb}
+use Rattle.words.specs.Lists.{tabulate}
+use Rattle.words.proofs.Tabulate.{length-tabulate, getD-tabulate, tabulate-suc}
+use Rattle.job.specs.Bytes.{has, little, numbers}
+
+pub map-tabulate : {X Y : Type 0} (g : X → Y) (n : ℕ) (f : ℕ → X) → map g (tabulate n f) ≡ tabulate n (λ i. g (f i))
+map-tabulate g zero f = refl
+map-tabulate g (suc n) f = rw (map-tabulate g n (λ i. f (suc i)))
+
+module _ (file : List ℕ) where
+  -- n bytes are there where what is left has them
+  pub has-left : (at n : ℕ) → at ≤ length file → leb n (length file - at) ≡ has file at n
+  has-left at n h = go (leb n (length file - at)) refl
+    where
+      go : (b : Bool) → leb n (length file - at) ≡ b → b ≡ leb (at + n) (length file)
+      go true e = sym (le-leb (at + n) (length file) (omega (arith, leb-true n (length file - at) e)))
+      go false e = sym (lt-leb (at + n) (length file) (omega (arith, leb-false n (length file - at) e)))
+
+  pub little-byte : (at : ℕ) → little file 1 at ≡ getD file at 0
+  unfolding little
+  little-byte at = omega arith
+
+  pub little-two : (at : ℕ) → little file 2 at ≡ getD file at 0 + 256 * getD file (at + 1) 0
+  unfolding little
+  little-two at = rw add-one (omega arith)
+
+  pub little-four : (at : ℕ) → little file 4 at ≡ little file 2 at + 65536 * little file 2 (at + 2)
+  unfolding little
+  little-four at = let e : at + 2 ≡ suc (suc at) = omega arith in rw e (omega arith)
+
+  pub little-small : ((i : ℕ) → getD file i 0 < 256) → (n at : ℕ) → little file n at < 256 ^ n
+  unfolding little
+  little-small h zero at = omega arith
+  little-small h (suc n) at = rw (pow-succ' 256 n) (omega (arith, h at, little-small h n (suc at)))
+
+  pub length-numbers : (w n at : ℕ) → length (numbers file w n at) ≡ n
+  unfolding numbers
+  length-numbers w n at = length-tabulate n (λ i. little file w (at + w * i))
+
+  pub getD-numbers : (w n at i : ℕ) → i < n → getD (numbers file w n at) i 0 ≡ little file w (at + w * i)
+  unfolding numbers
+  getD-numbers w n at i h = getD-tabulate n (λ i. little file w (at + w * i)) i 0 h
+
+  pub map-numbers : {X : Type 0} (g : ℕ → X) (w n at : ℕ) → map g (numbers file w n at) ≡ tabulate n (λ i. g (little file w (at + w * i)))
+  unfolding numbers
+  map-numbers g w n at = map-tabulate g n (λ i. little file w (at + w * i))
+
+  -- the i-th byte from `at` on is the i-th number of a byte each
+  pub byte-at : (at i : ℕ) → getD file (at + i) 0 ≡ little file 1 (at + 1 * i)
+  byte-at at i = let e : at + 1 * i ≡ at + i = omega arith in rw (e, little-byte)
+
+  -- numbers of a byte each are the bytes
+  pub numbers-bytes : (n at : ℕ) → at + n ≤ length file → numbers file 1 n at ≡ take n (drop at file)
+  numbers-bytes n at h =
+      let l = length-numbers 1 n at in
+      let k : n ≤ length (drop at file) = omega (arith, length-drop at file) in
+      ext-getD 0 (numbers file 1 n at) (take n (drop at file)) (l ∙ sym (length-take-le n (drop at file) k))
+      (λ i j. let b : i < n = omega arith in getD-numbers 1 n at i b ∙ sym (byte-at at i) ∙ sym (getD-take n (drop at file) i 0 b ∙ getD-drop at file i 0))
+
+module _ {X : Type 0} where
+  -- `new` is `old` with f 0, .., f (i - 1) in its first i places
+  pub record Filled (f : ℕ → X) (old new : List X) (i : ℕ) : Type 0 where
+    pub below : i ≤ length old
+    pub long : length new ≡ length old
+    pub is : new ≡ tabulate i f ++ drop i old
+
+  module _ (f : ℕ → X) (old : List X) where
+    pub filled-none : Filled f old old 0
+    filled-none = record { below = omega arith; long = refl; is = refl }
+
+    pub filled-more : {new : List X} {i : ℕ} {v : X} → Filled f old new i → i < length new → v ≡ f i → Filled f old (set new i v) (i + 1)
+    filled-more {new} {i} {v} c h e =
+        let k : i < length old = omega arith in
+        let t : tabulate (i + 1) f ≡ tabulate i f ++ f i ∷ [] = rw add-one (tabulate-suc i f) in
+        record {
+          below = omega arith;
+          long = length-set new i v ∙ c .long;
+          is = rw (c .is, e, t, add-one, drop-cons old i (f i) k, set-at (tabulate i f) (getD old i (f i)) (drop (suc i) old) (f i) i (length-tabulate i f))
+              (sym (append-snoc (tabulate i f) (f i) (drop (suc i) old)));
+        }
+
+    pub filled-all : {new : List X} {i : ℕ} → Filled f old new i → length new ≤ i → new ≡ tabulate (length old) f
+    filled-all {new} {i} c h = let z : i ≡ length old = omega arith in c .is ∙ rw (z, drop-length old) (append-nil (tabulate (length old) f))

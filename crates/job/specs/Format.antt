@@ -1,0 +1,122 @@
+-- The job file, read front to back: what each record holds, or the number that refuses it.
+-- Assumes nothing.
+use Prim.Native.Nat.{ℕ, _+_, _*_}
+use mathlib.Core.Bool.{Bool, not, cond}
+use mathlib.Core.List.{List, map}
+use lib.Dec.{eqb, leb}
+use lib.ListN.{length}
+use Rattle.words.specs.Words.{signed}
+use Rattle.layout.specs.declared.layout.Layout.{Layout}
+use Rattle.layout.specs.Limits.{rankLimit, jobLimit}
+use Rattle.layout.specs.Layout.{layoutOf}
+use Rattle.job.specs.declared.marks.Kind.{Kind}
+use Rattle.job.specs.declared.records.Go.{Go}
+use Rattle.job.specs.Bytes.{has, little, numbers}
+use Rattle.job.specs.Marks.{letterA, letterB, letterD, kindOf, isLayout, wordWidth, isGo}
+
+-- what was read and where the next record begins, or the number that refuses the file
+pub data Reading (X : Type 0) : Type 0 where
+  got : (value : X) (next : ℕ) → Reading X
+  refused : (number : ℕ) → Reading X
+
+-- a question: where the answer is no, its number
+abbrev pub check : {X : Type 0} → Bool → ℕ → Reading X → Reading X
+check passes number rest = cond passes rest (refused number)
+
+-- one after the other
+abbrev pub then : {X Y : Type 0} → Reading X → (X → ℕ → Reading Y) → Reading Y
+then (got value next) rest = rest value next
+then (refused number) rest = refused number
+
+pub record Tensor : Type 0 where
+  pub layout : Layout
+  pub words : List ℕ
+
+abbrev pub tensor : Layout → List ℕ → Tensor
+tensor layout words = record { layout = layout; words = words }
+
+pub record Job : Type 0 where
+  pub a : Tensor
+  pub b : Tensor
+  pub d : Tensor
+  pub go : Go
+
+abbrev pub jobOf : Tensor → Tensor → Tensor → Go → Job
+jobOf a b d go = record { a = a; b = b; d = d; go = go }
+
+module _ (file : List ℕ) where
+  -- of a record at `at`: its kind by its mark, a layout's rank, a count of words, and how many bytes a word of tensor t has
+  abbrev pub kindAt : ℕ → Kind
+  kindAt at = kindOf (little file 2 at)
+
+  abbrev pub rankAt : ℕ → ℕ
+  rankAt at = little file 1 (at + 2)
+
+  abbrev pub countAt : ℕ → ℕ
+  countAt at = little file 4 (at + 2)
+
+  abbrev pub widthAt : ℕ → ℕ → ℕ
+  widthAt t at = wordWidth t (kindAt at)
+
+  -- a layout from its letters on: r letters, r extents, r strides, the base
+  unfoldable pub layoutAt : ℕ → ℕ → Layout
+  layoutAt at r =
+      layoutOf (numbers file 1 r at) (numbers file 4 r (at + r)) (map (signed 32) (numbers file 4 r (at + 5 * r))) (little file 4 (at + 9 * r))
+
+  -- the layout of tensor t: mark (2 bytes), rank (1), letters (1 each), extents (4 each), strides (4 each, signed), base (4)
+  unfoldable pub layoutRecord : ℕ → ℕ → Reading Layout
+  layoutRecord t at =
+      check (has file at 2) 21
+      (check (isLayout t (kindAt at)) 20
+      (check (has file at 3) 21
+      (check (leb (rankAt at) rankLimit) 1
+      (check (has file at (7 + 9 * rankAt at)) 21
+      (got (layoutAt (at + 3) (rankAt at)) (at + (7 + 9 * rankAt at)))))))
+
+  -- the words of tensor t: mark (2), count (4), the words (4 each, or 1 each)
+  unfoldable pub wordsRecord : ℕ → ℕ → Reading (List ℕ)
+  wordsRecord t at =
+      check (has file at 2) 21
+      (check (not (eqb (widthAt t at) 0)) 20
+      (check (has file at 6) 21
+      (check (leb (countAt at) jobLimit) 23
+      (check (has file at (6 + widthAt t at * countAt at)) 21
+      (got (numbers file (widthAt t at) (countAt at) (at + 6)) (at + (6 + widthAt t at * countAt at)))))))
+
+  -- both records of tensor t
+  unfoldable pub wordsAfter : ℕ → Layout → ℕ → Reading Tensor
+  wordsAfter t layout at = then (wordsRecord t at) (λ words. got (tensor layout words))
+
+  unfoldable pub tensorRecords : ℕ → ℕ → Reading Tensor
+  tensorRecords t at = then (layoutRecord t at) (wordsAfter t)
+
+  -- mark (2), alpha, beta (4 each), rows, cols, depth (2 each), tiles done, budget (4 each)
+  unfoldable pub goAt : ℕ → Go
+  goAt at =
+      record {
+        alpha = little file 4 (at + 2);
+        beta = little file 4 (at + 6);
+        sizes = record { rows = little file 2 (at + 10); cols = little file 2 (at + 12); depth = little file 2 (at + 14) };
+        done = little file 4 (at + 16);
+        budget = little file 4 (at + 20);
+      }
+
+  unfoldable pub goRecord : ℕ → Reading Go
+  goRecord at =
+      check (has file at 2) 21
+      (check (isGo (kindAt at)) 20
+      (check (has file at 24) 21
+      (got (goAt at) (at + 24))))
+
+  -- what is left once some tensors are read: the others in turn, then `GO`, and after it the end
+  unfoldable pub fromGo : Tensor → Tensor → Tensor → ℕ → Reading Job
+  fromGo a b d at = then (goRecord at) (λ go end. check (eqb end (length file)) 22 (got (jobOf a b d go) end))
+
+  unfoldable pub fromD : Tensor → Tensor → ℕ → Reading Job
+  fromD a b at = then (tensorRecords letterD at) (fromGo a b)
+
+  unfoldable pub fromB : Tensor → ℕ → Reading Job
+  fromB a at = then (tensorRecords letterB at) (fromD a)
+
+  unfoldable pub readJob : Reading Job
+  readJob = then (tensorRecords letterA 0) fromB

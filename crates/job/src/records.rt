@@ -1,0 +1,193 @@
+ghost use mathlib.Core.Path.{_≡_};
+ghost use Prim.Native.Nat.{_+_, _≤_};
+ghost use lib.ListN.{length};
+ghost use Rattle.job.specs.Format.{layoutRecord, wordsRecord, wordsAfter, tensorRecords, goAt, goRecord};
+ghost use Rattle.job.specs.Parts.{layoutIn, layoutRead, wordsRead, tensorRead, goRead, LayoutHeld, LayoutSound, WordsSound, TensorSound, GoSound};
+use super::marks::is_go;
+use super::marks::is_layout;
+use super::marks::kind_of;
+use super::marks::word_width;
+use super::numbers::Cursor;
+use super::numbers::four_bytes;
+use super::numbers::two_bytes;
+use layout::limits::Limits;
+use tiles::grid::Sizes;
+
+// Where a layout's letters begin, and its rank.
+pub struct LayoutPart {
+    pub at: usize,
+    pub rank: usize,
+}
+
+// Where a tensor's words begin, how many there are, and the bytes of each.
+pub struct WordsPart {
+    pub at: usize,
+    pub count: usize,
+    pub width: usize,
+}
+
+// A tensor's two records.
+pub struct TensorParts {
+    pub layout: LayoutPart,
+    pub words: WordsPart,
+}
+
+// What `GO` holds.
+pub struct Go {
+    pub alpha: u32,
+    pub beta: u32,
+    pub sizes: Sizes,
+    pub done: u64,
+    pub budget: u64,
+}
+
+// What reading finds: the record and where the next begins, or the number that refuses the file.
+pub enum LayoutRead {
+    Got { part: LayoutPart, next: Cursor },
+    Refused(u32),
+}
+
+pub enum WordsRead {
+    Got { part: WordsPart, next: Cursor },
+    Refused(u32),
+}
+
+pub enum TensorRead {
+    Got { parts: TensorParts, next: Cursor },
+    Refused(u32),
+}
+
+pub enum GoRead {
+    Got { go: Go, next: Cursor },
+    Refused(u32),
+}
+
+// The layout of the tensor with this letter.
+fn layout_record(file: &[u8], from: Cursor, letter: u8) -> LayoutRead
+    requires { ⌜ from .at ≤ length (now file) ⌝ }
+    ensures { λ r. ⌜ (layoutRead (now (file .entry)) r ≡ layoutRecord (now (file .entry)) letter (from .at)) × LayoutSound (now (file .entry)) r ⌝ }
+{
+    let at = from.at;
+    if !from.has(file, 2) {
+        return LayoutRead::Refused(21);
+    }
+    if !is_layout(kind_of(two_bytes(file, at)), letter) {
+        return LayoutRead::Refused(20);
+    }
+    if !from.has(file, 3) {
+        return LayoutRead::Refused(21);
+    }
+    let rank = file[at + 2] as usize;
+    if rank > Limits::RANK {
+        return LayoutRead::Refused(1);
+    }
+    let size = 7 + 9 * rank;
+    if !from.has(file, size) {
+        return LayoutRead::Refused(21);
+    }
+    LayoutRead::Got {
+        part: LayoutPart { at: at + 3, rank },
+        next: Cursor { at: at + size },
+    }
+}
+
+// The words of the tensor with this letter.
+fn words_record(file: &[u8], from: Cursor, letter: u8) -> WordsRead
+    requires { ⌜ from .at ≤ length (now file) ⌝ }
+    ensures { λ r. ⌜ (wordsRead (now (file .entry)) r ≡ wordsRecord (now (file .entry)) letter (from .at)) × WordsSound (now (file .entry)) r ⌝ }
+{
+    let at = from.at;
+    if !from.has(file, 2) {
+        return WordsRead::Refused(21);
+    }
+    let width = word_width(kind_of(two_bytes(file, at)), letter);
+    if width == 0 {
+        return WordsRead::Refused(20);
+    }
+    if !from.has(file, 6) {
+        return WordsRead::Refused(21);
+    }
+    let count = four_bytes(file, at + 2) as usize;
+    if count > Limits::JOB {
+        return WordsRead::Refused(23);
+    }
+    let size = 6 + width * count;
+    if !from.has(file, size) {
+        return WordsRead::Refused(21);
+    }
+    WordsRead::Got {
+        part: WordsPart {
+            at: at + 6,
+            count,
+            width,
+        },
+        next: Cursor { at: at + size },
+    }
+}
+
+fn words_after(file: &[u8], layout: LayoutPart, from: Cursor, letter: u8) -> TensorRead
+    requires { ⌜ LayoutHeld (now file) layout × (from .at ≤ length (now file)) ⌝ }
+    ensures { λ r. ⌜ (tensorRead (now (file .entry)) r ≡ wordsAfter (now (file .entry)) letter (layoutIn (now (file .entry)) layout) (from .at)) × TensorSound (now (file .entry)) r ⌝ }
+{
+    let read = words_record(file, from, letter);
+    match read {
+        WordsRead::Got { part, next } => TensorRead::Got {
+            parts: TensorParts {
+                layout,
+                words: part,
+            },
+            next,
+        },
+        WordsRead::Refused(number) => TensorRead::Refused(number),
+    }
+}
+
+// Both records of the tensor with this letter.
+pub fn tensor_records(file: &[u8], from: Cursor, letter: u8) -> TensorRead
+    requires { ⌜ from .at ≤ length (now file) ⌝ }
+    ensures { λ r. ⌜ (tensorRead (now (file .entry)) r ≡ tensorRecords (now (file .entry)) letter (from .at)) × TensorSound (now (file .entry)) r ⌝ }
+{
+    let read = layout_record(file, from, letter);
+    match read {
+        LayoutRead::Got { part, next } => words_after(file, part, next, letter),
+        LayoutRead::Refused(number) => TensorRead::Refused(number),
+    }
+}
+
+// The numbers of a `GO` that is there whole.
+fn go_at(file: &[u8], at: usize) -> Go
+    requires { ⌜ at + 24 ≤ length (now file) ⌝ }
+    ensures { λ r. ⌜ r ≡ goAt (now (file .entry)) at ⌝ }
+{
+    Go {
+        alpha: four_bytes(file, at + 2),
+        beta: four_bytes(file, at + 6),
+        sizes: Sizes {
+            rows: two_bytes(file, at + 10) as u32,
+            cols: two_bytes(file, at + 12) as u32,
+            depth: two_bytes(file, at + 14) as u32,
+        },
+        done: four_bytes(file, at + 16) as u64,
+        budget: four_bytes(file, at + 20) as u64,
+    }
+}
+
+pub fn go_record(file: &[u8], from: Cursor) -> GoRead
+    requires { ⌜ from .at ≤ length (now file) ⌝ }
+    ensures { λ r. ⌜ (goRead (now (file .entry)) r ≡ goRecord (now (file .entry)) (from .at)) × GoSound (now (file .entry)) r ⌝ }
+{
+    let at = from.at;
+    if !from.has(file, 2) {
+        return GoRead::Refused(21);
+    }
+    if !is_go(kind_of(two_bytes(file, at))) {
+        return GoRead::Refused(20);
+    }
+    if !from.has(file, 24) {
+        return GoRead::Refused(21);
+    }
+    GoRead::Got {
+        go: go_at(file, at),
+        next: Cursor { at: at + 24 },
+    }
+}

@@ -1,0 +1,45 @@
+"""Random job files and the largest one come back from show and make as they were."""
+
+import random
+
+from files import byte_words, go, layout, words
+from running import brief, expect
+
+
+def random_words(rng, tensor):
+    count = rng.choice([0, 1, 4096, rng.randrange(4097)] + [rng.randrange(40)] * 26)
+    top = rng.choice([2, 256, 2**32])  # few different values give long runs
+    if rng.random() < 0.5:
+        return byte_words(tensor, [rng.randrange(min(top, 256)) for _ in range(count)])
+    return words(tensor, [rng.randrange(top) for _ in range(count)])
+
+
+def random_job(rng, letters):
+    job = b""
+    for tensor in (b"A", b"B", b"D"):
+        rank = rng.choice([0, 1, 8, rng.randrange(9)])
+        extents = [rng.choice([0, 1, rng.randrange(2**32), 2**32 - 1]) for _ in range(rank)]
+        strides = [rng.choice([0, -1, rng.randrange(-(2**31), 2**31), -(2**31), 2**31 - 1]) for _ in range(rank)]
+        job += layout(tensor, bytes(rng.choices(letters, k=rank)), extents, strides, rng.randrange(2**32))
+        job += random_words(rng, tensor)
+    sizes = [rng.randrange(2**16) for _ in range(3)]
+    return job + go(rng.randrange(2**32), rng.randrange(2**32), *sizes, rng.randrange(2**32), rng.randrange(2**32))
+
+
+def check_round_trips(bench):
+    rng = random.Random(1)
+    for title, letters in (("printable letters", bytes(range(32, 127))), ("letters of any byte", bytes(range(256)))):
+        for n in range(300):
+            job = random_job(rng, letters)
+            expect(bench.again(job) == job, "show, then make changes", brief(job))
+            expect(n >= 50 or bench.reads(job), "the program does not read", brief(job))
+        yield f"300 random job files, {title}: show, then make"
+    largest = b"".join(
+        layout(tensor, b"abcdefgh", [2**32 - 1] * 8, [-(2**31)] * 8, 2**32 - 1)
+        + words(tensor, [rng.randrange(2**32) for _ in range(4096)])
+        for tensor in (b"A", b"B", b"D")
+    ) + go(*[2**32 - 1] * 2, *[65535] * 3, *[2**32 - 1] * 2)
+    shown = bench.process("show", "-", input=largest).stdout
+    made = bench.process("make", "-", "-", input=shown).stdout
+    expect(made == largest, "show, then make changes the largest job file")
+    yield "the largest job file: show, then make"
