@@ -1,13 +1,13 @@
 -- A list whose first words were stored one after the other: a store behind the front makes it one word longer, and so do words stored in a row.
 -- Assumes nothing.
 use mathlib.Core.Path.{_≡_, refl, ap, sym, _∙_}
-use mathlib.Core.List.{List, _∷_, _++_}
+use mathlib.Core.List.{List, _∷_, _++_, append-nil}
 use Prim.Native.Nat.{ℕ, zero, suc, _+_, _<_, _≤_}
 use native.Mathlib.Nat.{add-zero}
 use native.Mathlib.Numerals.{add-one}
 use native.Mathlib.Omega.{arith}
 use lib.ListN.{length, getD, drop, set, length-append, length-drop, List·getD-append}
-use lib.Seq.{append-snoc, drop-cons, drop-at, set-at}
+use lib.Seq.{append-snoc, drop-cons, drop-at, drop-length, set-at}
 use Rattle.words.specs.Lists.{tabulate}
 use Rattle.words.specs.Loops.{each, put}
 use Rattle.words.proofs.Store.{length-put, length-each}
@@ -26,20 +26,26 @@ pub drop-front : (n : ℕ) (f : ℕ → ℕ) (xs : List ℕ) → drop n (front n
 unfolding front
 drop-front n f xs = drop-at (tabulate n f) (drop n xs) n (length-tabulate n f)
 
-pub front-none : (f : ℕ → ℕ) (xs : List ℕ) → front 0 f xs ≡ xs
-unfolding front
-front-none f xs = refl
+module _ {X : Type 0} (f : ℕ → X) (xs : List X) where
+  pub front-none : front 0 f xs ≡ xs
+  unfolding front
+  front-none = refl
 
--- one more word
-pub front-set : (n : ℕ) (f : ℕ → ℕ) (xs : List ℕ) (v : ℕ) → n < length xs → v ≡ f n → set (front n f xs) n v ≡ front (n + 1) f xs
-unfolding front
-front-set n f xs v h e =
-    ap (λ (l : List ℕ). set (tabulate n f ++ l) n v) (drop-cons xs n 0 h)
-    ∙ set-at (tabulate n f) (getD xs n 0) (drop (suc n) xs) v n (length-tabulate n f)
-    ∙ ap (λ (w : ℕ). tabulate n f ++ w ∷ drop (suc n) xs) e
-    ∙ sym (append-snoc (tabulate n f) (f n) (drop (suc n) xs))
-    ∙ ap (λ (l : List ℕ). l ++ drop (suc n) xs) (sym (tabulate-suc n f))
-    ∙ ap (λ (k : ℕ). tabulate k f ++ drop k xs) (sym (add-one n))
+  -- one more word
+  pub front-set : (n : ℕ) (v : X) → n < length xs → v ≡ f n → set (front n f xs) n v ≡ front (n + 1) f xs
+  unfolding front
+  front-set n v h e =
+      ap (λ (l : List X). set (tabulate n f ++ l) n v) (drop-cons xs n v h)
+      ∙ set-at (tabulate n f) (getD xs n v) (drop (suc n) xs) v n (length-tabulate n f)
+      ∙ ap (λ (w : X). tabulate n f ++ w ∷ drop (suc n) xs) e
+      ∙ sym (append-snoc (tabulate n f) (f n) (drop (suc n) xs))
+      ∙ ap (λ (l : List X). l ++ drop (suc n) xs) (sym (tabulate-suc n f))
+      ∙ ap (λ (k : ℕ). tabulate k f ++ drop k xs) (sym (add-one n))
+
+  -- all of them
+  pub front-all : front (length xs) f xs ≡ tabulate (length xs) f
+  unfolding front
+  front-all = rw (drop-length xs) (append-nil (tabulate (length xs) f))
 
 -- the same words, said another way
 pub front-ext : (n : ℕ) {f g : ℕ → ℕ} (xs : List ℕ) → ((i : ℕ) → i < n → f i ≡ g i) → front n f xs ≡ front n g xs
@@ -52,7 +58,7 @@ unfolding stored each put
 stored-front zero n v f xs h e = ap (λ (k : ℕ). front k f xs) (sym (add-zero n))
 stored-front (suc m) n v f xs h e =
     ap (λ (l : List ℕ). set l (n + m) (v m)) (stored-front m n v f xs (omega arith) (λ i k. e i (omega arith)))
-    ∙ front-set (n + m) f xs (v m) (omega arith) (e m (omega arith))
+    ∙ front-set f xs (n + m) (v m) (omega arith) (e m (omega arith))
     ∙ ap (λ (k : ℕ). front k f xs) (omega arith)
 
 pub length-stored : (n : ℕ) (v : ℕ → ℕ) (to : ℕ) (xs : List ℕ) → length (stored n v to xs) ≡ length xs

@@ -18,7 +18,7 @@ unfoldable pub stored : ℕ → (ℕ → ℕ) → ℕ → List ℕ → List ℕ
 stored n v to = each n (λ r. put (λ w. v r) (to + r))
 
 -- a list whose first n words are f 0, f 1, .., the rest unchanged
-unfoldable pub front : ℕ → (ℕ → ℕ) → List ℕ → List ℕ
+unfoldable pub front : {X : Type 0} → ℕ → (ℕ → X) → List X → List X
 front n f xs = tabulate n f ++ drop n xs
 
 -- word x of a packed block: lane n and depth d stand at n + width × d; past the edge, at or above `count` lanes or `filled` depth counts, is 0

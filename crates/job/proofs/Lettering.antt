@@ -3,13 +3,12 @@
 -- Assumes nothing.
 use mathlib.Core.Path.{_≡_, refl, sym, ap, _∙_}
 use mathlib.Core.Bool.{Bool, true, false, cond}
-use mathlib.Core.List.{List, _++_, append-nil}
+use mathlib.Core.List.{List, _++_}
 use Prim.Native.Nat.{ℕ, _+_, _<_, _≤_, zero-le}
 use native.Mathlib.Numerals.{add-one}
 use native.Mathlib.Omega.{arith}
 use lib.Dec.{eqb}
 use lib.ListN.{length, set}
-use lib.Seq.{drop-length}
 use Rattle.words.specs.Words.{word, wordOf}
 use Rattle.words.specs.Lists.{tabulate}
 use Rattle.words.specs.Loops.{each, put}
@@ -36,8 +35,7 @@ use Rattle.tiles.specs.Cut.{Cut, total}
 use Rattle.tiles.specs.Grid.{cutIn}
 use Rattle.tiles.specs.Progress.{State, stateAt}
 use Rattle.tiles.specs.Setting.{Sound, render}
-use Rattle.tiles.proofs.Closed.{render-shows, length-walk}
-use Rattle.blocks.specs.Packed.{front}
+use Rattle.tiles.proofs.Closed.{render-shows}
 use Rattle.tiled.specs.Setting.{cutOf, setting}
 use Rattle.tiled.specs.Questions.{sizeQuestion, roomQuestion, doneQuestion, acceptQuestions, tileQuestions}
 use Rattle.tiled.specs.Planned.{GridOf, PlanFits, placeD}
@@ -77,7 +75,7 @@ module _ (c : Contraction) (z : Sizes) (a b d e : List ℕ) where
 
 -- ---- a tile call that ran
 
--- it was accepted, and D's slice keeps its length
+-- it was accepted
 module _ (c : Contraction) (z : Sizes) (w : Slices) (work : List ℕ) (t budget : ℕ) {r : ℕ} {full : Bool} {ds ws : List ℕ}
     (e : gave (ran r full) ds ws ≡ tileCall c z w work t budget) where
   abbrev number : ℕ
@@ -96,10 +94,6 @@ module _ (c : Contraction) (z : Sizes) (w : Slices) (work : List ℕ) (t budget 
   unfolding tileQuestions
   ran-accepted =
       record { passed = refusal-both (acceptQuestions c z w) (roomQuestion z (length work) ++ doneQuestion (cutOf c z) t) (numbered c z w) (all-passed .0) .0 }
-
-  pub ran-length : length ds ≡ length (w D)
-  unfolding ranCall
-  ran-length = ap (λ (x : TileCall). length (x .words)) (all-passed .1) ∙ length-walk (setting c z w) _ (w D)
 
 -- ---- loops
 
@@ -121,11 +115,6 @@ module _ {bound : ℕ} {body : ℕ → List ℕ → List ℕ} {was : List ℕ} {
 
   pub turns-all : bound ≤ n → out ≡ each bound body was
   turns-all h = let e : n ≡ bound = omega (arith, r .within) in r .words ∙ ap (λ (k : ℕ). each k body was) e
-
--- a list whose words were all stored
-pub front-all : (f : ℕ → ℕ) (xs : List ℕ) → front (length xs) f xs ≡ tabulate (length xs) f
-unfolding front
-front-all f xs = rw (drop-length xs) (append-nil (tabulate (length xs) f))
 
 -- ---- the row counts of a batch and a column count
 

@@ -1,23 +1,20 @@
 -- Little-endian numbers of a file, by their bytes, and slices that a loop fills in order.
 -- Assumes nothing.
-use mathlib.Core.Path.{_≡_, refl, sym, _∙_}
+use mathlib.Core.Path.{_≡_, refl, sym, ap, _∙_}
 use mathlib.Core.Bool.{Bool, true, false}
-use mathlib.Core.List.{List, [], _∷_, _++_, map, append-nil}
-use Prim.Native.Nat.{ℕ, zero, suc, _+_, _*_, _-_, _^_, _<_, _≤_}
-use native.Mathlib.Nat.{pow-succ'}
+use mathlib.Core.List.{List, map}
+use Prim.Native.Nat.{ℕ, suc, _+_, _*_, _-_, _<_, _≤_}
 use native.Mathlib.Numerals.{add-one}
 use native.Mathlib.Omega.{arith}
 use lib.Dec.{leb}
 use lib.ListN.{length, getD, set, take, drop, length-set, length-drop}
-use lib.Seq.{ext-getD, getD-take, getD-drop, length-take-le, set-at, drop-cons, append-snoc, drop-length}
+use lib.Seq.{ext-getD, getD-take, getD-drop, length-take-le}
 use borrow.Author.Tests.{leb-true, leb-false, le-leb, lt-leb}
 use Rattle.words.specs.Lists.{tabulate}
-use Rattle.words.proofs.Tabulate.{length-tabulate, getD-tabulate, tabulate-suc}
+use Rattle.words.proofs.Tabulate.{length-tabulate, getD-tabulate, map-tabulate}
+use Rattle.blocks.specs.Packed.{front}
+use Rattle.blocks.proofs.Fronts.{front-none, front-set, front-all}
 use Rattle.job.specs.Bytes.{has, little, numbers}
-
-pub map-tabulate : {X Y : Type 0} (g : X → Y) (n : ℕ) (f : ℕ → X) → map g (tabulate n f) ≡ tabulate n (λ i. g (f i))
-map-tabulate g zero f = refl
-map-tabulate g (suc n) f = rw (map-tabulate g n (λ i. f (suc i)))
 
 module _ (file : List ℕ) where
   -- n bytes are there where what is left has them
@@ -39,11 +36,6 @@ module _ (file : List ℕ) where
   pub little-four : (at : ℕ) → little file 4 at ≡ little file 2 at + 65536 * little file 2 (at + 2)
   unfolding little
   little-four at = let e : at + 2 ≡ suc (suc at) = omega arith in rw e (omega arith)
-
-  pub little-small : ((i : ℕ) → getD file i 0 < 256) → (n at : ℕ) → little file n at < 256 ^ n
-  unfolding little
-  little-small h zero at = omega arith
-  little-small h (suc n) at = rw (pow-succ' 256 n) (omega (arith, h at, little-small h n (suc at)))
 
   pub length-numbers : (w n at : ℕ) → length (numbers file w n at) ≡ n
   unfolding numbers
@@ -74,22 +66,16 @@ module _ {X : Type 0} where
   pub record Filled (f : ℕ → X) (old new : List X) (i : ℕ) : Type 0 where
     pub below : i ≤ length old
     pub long : length new ≡ length old
-    pub is : new ≡ tabulate i f ++ drop i old
+    pub is : new ≡ front i f old
 
   module _ (f : ℕ → X) (old : List X) where
     pub filled-none : Filled f old old 0
-    filled-none = record { below = omega arith; long = refl; is = refl }
+    filled-none = record { below = omega arith; long = refl; is = sym (front-none f old) }
 
     pub filled-more : {new : List X} {i : ℕ} {v : X} → Filled f old new i → i < length new → v ≡ f i → Filled f old (set new i v) (i + 1)
     filled-more {new} {i} {v} c h e =
         let k : i < length old = omega arith in
-        let t : tabulate (i + 1) f ≡ tabulate i f ++ f i ∷ [] = rw add-one (tabulate-suc i f) in
-        record {
-          below = omega arith;
-          long = length-set new i v ∙ c .long;
-          is = rw (c .is, e, t, add-one, drop-cons old i (f i) k, set-at (tabulate i f) (getD old i (f i)) (drop (suc i) old) (f i) i (length-tabulate i f))
-              (sym (append-snoc (tabulate i f) (f i) (drop (suc i) old)));
-        }
+        record { below = omega arith; long = length-set new i v ∙ c .long; is = ap (λ (l : List X). set l i v) (c .is) ∙ front-set f old i v k e }
 
     pub filled-all : {new : List X} {i : ℕ} → Filled f old new i → length new ≤ i → new ≡ tabulate (length old) f
-    filled-all {new} {i} c h = let z : i ≡ length old = omega arith in c .is ∙ rw (z, drop-length old) (append-nil (tabulate (length old) f))
+    filled-all {new} {i} c h = let z : i ≡ length old = omega arith in c .is ∙ ap (λ (k : ℕ). front k f old) z ∙ front-all f old

@@ -12,17 +12,13 @@ use lib.ListN.{length, getD, take}
 use lib.Seq.{getD-take, length-take-le}
 use borrow.Author.Tests.{leb-true, le-leb, ne-eqb, eqb-false, not-true}
 use Rattle.words.proofs.Tabulate.{tabulate-ext}
-use Rattle.layout.specs.Limits.{rankLimit, jobLimit}
+use Rattle.layout.specs.Limits.{rankLimit, jobLimit, fileRoom}
 use Rattle.job.specs.Bytes.{has, little, numbers}
 use Rattle.job.specs.Marks.{letterA, letterB, letterD, kindOf, isLayout, wordWidth, isGo}
 use Rattle.job.specs.Format.{Reading, got, refused, check, then, Tensor, kindAt, layoutAt, goAt}
 use Rattle.job.specs.Format.{layoutRecord, wordsRecord, wordsAfter, tensorRecords, goRecord, fromGo, fromD, fromB, readJob}
 use Rattle.job.specs.Run.{readingText, jobText}
 use Rattle.job.proofs.Reading.{wide-of, few-bytes}
-
--- bytes that the job program reads of its file
-abbrev pub fileRoom : ℕ
-fileRoom = 65536
 
 -- bytes of the longest records
 abbrev layoutRoom : ℕ

@@ -19,10 +19,7 @@ pub pasted-turn : (out : List ℕ) (at : ℕ) (text : List ℕ) {now : List ℕ}
     → set now (at + i) (getD text i 0) ≡ paste out at text (i + 1)
 pasted-turn out at text {now} {i} room h e = rw (e, add-one i) (paste-suc out at text i 0 (omega arith) h)
 
--- a text that has room keeps the length, and one that keeps it from the start has room
-pub length-written : (out : List ℕ) (at : ℕ) (text : List ℕ) → at + length text ≤ length out → length (written out at text) ≡ length out
-length-written out at text h = simp (length-append, length-take, length-drop) (omega arith)
-
+-- a text that keeps the length, from the start, has room
 pub written-room : (out text : List ℕ) → length (written out 0 text) ≡ length out → length text ≤ length out
 written-room out text e = omega (arith, simp (length-append, length-drop) at e)
 

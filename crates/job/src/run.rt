@@ -2,7 +2,7 @@ ghost use mathlib.Core.Path.{_≡_};
 ghost use Prim.Native.Nat.{_≤_};
 ghost use lib.ListN.{length};
 ghost use Rattle.io.specs.Counts.{Counts};
-ghost use Rattle.layout.specs.Limits.{jobLimit};
+ghost use Rattle.layout.specs.Limits.{jobLimit, textRoom};
 ghost use Rattle.contraction.specs.Operands.{three};
 ghost use Rattle.tiled.specs.Call.{tileCall};
 ghost use Rattle.job.specs.Run.{contractionIn, callText, runText, jobText};
@@ -35,7 +35,7 @@ fn put_call(
     letters: &mut [u8],
     out: &mut [u8],
 ) -> usize
-    requires { ⌜ (length (now letters) ≡ length (now d)) × (length (now d) ≤ jobLimit) × (65536 ≤ length (now out)) ⌝ }
+    requires { ⌜ (length (now letters) ≡ length (now d)) × (length (now d) ≤ jobLimit) × (textRoom ≤ length (now out)) ⌝ }
     ensures { λ r. ⌜ Begins (now (out .entry)) (callText c z (three (now (a .entry)) (now (b .entry)) (now (d .entry))) (tileCall c z (three (now (a .entry)) (now (b .entry)) (now (d .entry))) (now (work .entry)) done budget)) r (now (out .exit)) ⌝ }
 {
     let outcome = run_tiles(c, z, a, b, d, work, done, budget);
@@ -71,7 +71,7 @@ fn contraction_in(file: &[u8], job: JobParts) -> Contraction
 
 // A job that was read: its words in arrays of its own, one call.
 fn put_job(file: &[u8], job: JobParts, out: &mut [u8]) -> usize
-    requires { ⌜ JobHeld (now file) job × (65536 ≤ length (now out)) ⌝ }
+    requires { ⌜ JobHeld (now file) job × (textRoom ≤ length (now out)) ⌝ }
     ensures { λ r. ⌜ Begins (now (out .entry)) (runText (jobIn (now (file .entry)) job)) r (now (out .exit)) ⌝ }
 {
     let c = contraction_in(file, job);
@@ -109,7 +109,7 @@ fn put_job(file: &[u8], job: JobParts, out: &mut [u8]) -> usize
 }
 
 // The text that answers a job file, at the start of `out`; how long it is.
-pub fn run(file: &[u8], out: &mut [u8; 65536]) -> usize
+pub fn run(file: &[u8], out: &mut [u8; Limits::TEXT]) -> usize
     ensures { λ r. ⌜ (r ≡ length (jobText (now (file .entry)))) × (now (out .exit) ≡ written (now (out .entry)) 0 (jobText (now (file .entry)))) ⌝ }
     ensures { λ r. ⌜ Counts r (now (out .exit)) ⌝ }
 {

@@ -42,6 +42,12 @@ jobLimit = 4096
 abbrev pub workRoom : ℕ  -- words of the job program's work slice
 workRoom = 16384
 
+abbrev pub fileRoom : ℕ  -- bytes that the job program reads of its file
+fileRoom = 65536
+
+abbrev pub textRoom : ℕ  -- bytes for the text that it prints
+textRoom = 65536
+
 abbrev pub limits : Limits
 limits =
     record {
@@ -58,4 +64,6 @@ limits =
       block = blockLimit;
       job = jobLimit;
       work = workRoom;
+      file = fileRoom;
+      text = textRoom;
     }

@@ -16,6 +16,8 @@ pub struct Limits {
     pub block: usize,
     pub job: usize,
     pub work: usize,
+    pub file: usize,
+    pub text: usize,
 }
 
 impl Limits {
@@ -44,6 +46,10 @@ impl Limits {
     pub const JOB: usize = 4096;
     // The words of the job program's work slice.
     pub const WORK: usize = 16384;
+    // The bytes that the job program reads of its file, and those for the text that it prints.
+    pub const FILE: usize = 65536;
+
+    pub const TEXT: usize = 65536;
 
     // The constants are those that the definitions name.
     pub fn all() -> Limits
@@ -63,6 +69,8 @@ impl Limits {
             block: Limits::BLOCK,
             job: Limits::JOB,
             work: Limits::WORK,
+            file: Limits::FILE,
+            text: Limits::TEXT,
         }
     }
 }

@@ -2,6 +2,7 @@
 ghost use Prim.Native.Nat.{_+_, _≤_};
 ghost use lib.ListN.{length};
 ghost use Rattle.io.specs.Counts.{Counts};
+use layout::limits::Limits;
 use libc::STDERR_FILENO;
 use libc::STDIN_FILENO;
 use libc::STDOUT_FILENO;
@@ -47,8 +48,8 @@ fn load(fd: i32, buf: &mut [u8]) -> Loaded
 
 // No accepted job file is as long as the buffer, so that what is left of a longer one changes nothing in the answer.
 fn answer(fd: i32, name: &[u8]) {
-    let mut file = io::large_buffer();
-    let mut text = io::large_buffer();
+    let mut file = [0u8; Limits::FILE];
+    let mut text = [0u8; Limits::TEXT];
     let loaded = load(fd, &mut file);
     if loaded.failed {
         os::fail(name);

@@ -1,7 +1,7 @@
 -- Lists made of counts: their lengths and members, one member more at the end, and what is left from a place on.
 -- Assumes nothing.
 use mathlib.Core.Path.{_≡_, refl, ap, sym, _∙_}
-use mathlib.Core.List.{List, [], _∷_, _++_}
+use mathlib.Core.List.{List, [], _∷_, _++_, map}
 use Prim.Native.Nat.{ℕ, zero, suc, _+_, _-_, _<_, _≤_}
 use native.Mathlib.Numerals.{add-one}
 use native.Mathlib.Omega.{arith}
@@ -68,3 +68,8 @@ module _ {X : Type 0} where
   -- for a loop that goes down
   pub from-before : (d : X) (xs : List X) (n i : ℕ) → 0 < i → i ≤ n → from d xs n (i - 1) ≡ getD xs (i - 1) d ∷ from d xs n i
   from-before d xs n i h k = let e : (i - 1) + 1 ≡ i = omega arith in from-next d xs n (i - 1) (omega arith) ∙ ap (λ (j : ℕ). getD xs (i - 1) d ∷ from d xs n j) e
+
+-- f of each member
+pub map-tabulate : {X Y : Type 0} (g : X → Y) (n : ℕ) (f : ℕ → X) → map g (tabulate n f) ≡ tabulate n (λ i. g (f i))
+map-tabulate g zero f = refl
+map-tabulate g (suc n) f = rw (map-tabulate g n (λ i. f (suc i)))

@@ -49,7 +49,7 @@ module _ {from : Operand → ℕ} {g : List Label} {first k : ℕ} {before : Ope
       next : (o : Operand) → three (set a k (to .a)) (set b k (to .b)) (set d k (to .d)) o ≡ front (k + 1) (laidWord from g first o) (before o)
       next o =
           three-set a b d k to o ∙ ap (λ (l : List ℕ). set l k (wordsIn to o)) (w .each o)
-          ∙ front-set k (laidWord from g first o) (before o) (wordsIn to o) (room o) (word-next o)
+          ∙ front-set (laidWord from g first o) (before o) k (wordsIn to o) (room o) (word-next o)
 
 abbrev Inv-loop : tie.InvT-loop
 Inv-loop g from first count a₀ b₀ d₀ k₀ a b d k = (k ≤ count) × Laid (wordsIn from) (labelsIn g) first k (three a₀ b₀ d₀) (three a b d)
