@@ -1,8 +1,9 @@
 # make run: builds the job program, which proves all that it uses, and runs it on an example; make run JOB=FILE on another job file.
 # make test: proves every crate, tries the must-fail edits, runs every test. Its last line is 'N passed, 0 failed', or it fails.
 # make example: makes the archive, then builds and runs the examples; each prints the same lines in C and in Rust.
-# make bench: makes the archive, then measures the tiled engine beside loops in Rust. Prints a table; fails where a required ratio is missed.
-.PHONY: run test example bench archive
+# make bench: makes the archive, then measures both engines beside loops in Rust. Prints the tables, puts them and the plots into docs/; fails where a required ratio is missed.
+# make soak: makes the archive and the job program, then compares both with models on a million random contractions and 100,000 damaged job files. SEED=n takes others, COUNT=n fewer.
+.PHONY: run test example bench soak archive
 JOB = examples/jobs/matrix_three_tiles.job
 cargo = cd rust && CARGO_TARGET_DIR=../target/cargo cargo
 run:
@@ -25,4 +26,8 @@ example: archive
 	@$(cargo) run --release --offline --quiet --example tiles
 
 bench: archive
-	@$(cargo) bench --offline --quiet --bench tiles
+	@$(cargo) bench --offline --quiet --bench figures
+
+soak: archive
+	@rt check nezgrak_job >&2
+	@$(cargo) test --release --offline --quiet --test soak

@@ -1,4 +1,4 @@
-//! The edges that document 01 lists. Those with a star there are also theorems of the definitions; here the archive
+//! The small cases that the rules list. Those that are proved there are also theorems of the definitions; here the archive
 //! runs them, by the plain call and by tile calls.
 
 mod common;

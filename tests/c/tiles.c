@@ -1,34 +1,23 @@
 /* Tile calls and state questions from C, by flat parameters and by layouts. Prints a line for each check; the status is 0 where all hold. */
 #include "check.h"
-#include <nezgrak.h>
-#include <string.h>
 
-enum { GUARD = 4, WORDS = 4, WORK = 6, UNSET = 77 };
+enum { WORK = 6, UNSET = 77 };
 
-/* A(i,k) * B(k,j) into D(i,j) by tiles, with guard words on both sides of D and of work. */
+/* The product of the two matrices by tiles, with guard words on both sides of work. */
 typedef struct {
-    nezgrak_layout a, b, d;
-    uint32_t a_words[6], b_words[6], d_words[GUARD + WORDS + GUARD], work[GUARD + WORK + GUARD];
+    matrices m;
+    uint32_t work[GUARD + WORK + GUARD];
     size_t work_count;
     uint32_t rows, cols, depth, complete, state;
     uint64_t done, budget, done_after, batch, row, column;
 } contraction;
 
-/* Eight tiles, with the first words of document 01's example for the job program. Work has two words to spare. */
-static contraction matrices(void)
+/* Eight tiles. Work has two words to spare. */
+static contraction product(void)
 {
-    static const uint32_t extents[3][2] = {{2, 3}, {3, 2}, {2, 2}};
-    static const int32_t strides[3][2] = {{1, 2}, {1, 3}, {1, 2}};
-    contraction c = {
-        nezgrak_layout_of("ik", extents[0], strides[0], 2, 0),
-        nezgrak_layout_of("kj", extents[1], strides[1], 2, 0),
-        nezgrak_layout_of("ij", extents[2], strides[2], 2, 0),
-        {1, 2, 3, 4, 5, 6}, {1, 0, 2, 0, 1, 1}, {0}, {0}, WORK, 1, 1, 2, UNSET, UNSET, 0, 8, UNSET, 0, 0, 0};
+    contraction c = {two_by_two(), {0}, WORK, 1, 1, 2, UNSET, UNSET, 0, 8, UNSET, 0, 0, 0};
     for (int i = 0; i < GUARD; i++) {
-        c.d_words[i] = c.d_words[GUARD + WORDS + i] = c.work[i] = c.work[GUARD + WORK + i] = guard;
-    }
-    for (int i = 0; i < WORDS; i++) {
-        c.d_words[GUARD + i] = 100 * (uint32_t)(i + 1);
+        c.work[i] = c.work[GUARD + WORK + i] = guard;
     }
     for (int i = 0; i < WORK; i++) {
         c.work[GUARD + i] = 50 + (uint32_t)i;
@@ -39,22 +28,21 @@ static contraction matrices(void)
 static uint32_t run(contraction *c)
 {
     return nezgrak_run_tiles_layouts(
-        &c->a, c->a_words, 6, &c->b, c->b_words, 6, &c->d, c->d_words + GUARD, WORDS, 1, 2,
+        &c->m.a, c->m.a_words, 6, &c->m.b, c->m.b_words, 6, &c->m.d, c->m.d_words + GUARD, WORDS, 1, 2,
         c->rows, c->cols, c->depth, c->work + GUARD, c->work_count, c->done, c->budget, &c->done_after, &c->complete);
 }
 
 static uint32_t ask(contraction *c)
 {
     return nezgrak_state_layouts(
-        &c->a, c->a_words, 6, &c->b, c->b_words, 6, &c->d, c->d_words + GUARD, WORDS, 1, 2,
+        &c->m.a, c->m.a_words, 6, &c->m.b, c->m.b_words, 6, &c->m.d, c->m.d_words + GUARD, WORDS, 1, 2,
         c->rows, c->cols, c->depth, c->done, c->batch, c->row, c->column, &c->state);
 }
 
 static int same(const contraction *x, const contraction *y)
 {
-    return memcmp(x->a_words, y->a_words, sizeof x->a_words) == 0 && memcmp(x->b_words, y->b_words, sizeof x->b_words) == 0 &&
-           memcmp(x->d_words, y->d_words, sizeof x->d_words) == 0 && memcmp(x->work, y->work, sizeof x->work) == 0 &&
-           x->done_after == y->done_after && x->complete == y->complete && x->state == y->state;
+    return same_words(&x->m, &y->m) && memcmp(x->work, y->work, sizeof x->work) == 0 && x->done_after == y->done_after &&
+           x->complete == y->complete && x->state == y->state;
 }
 
 /* A call from `done` on: the new count, these words in D and in work, and nothing else changed. */
@@ -62,7 +50,7 @@ static int runs(contraction c, uint64_t done_after, uint32_t complete, const uin
 {
     contraction after = c;
     uint32_t found = run(&after);
-    memcpy(c.d_words + GUARD, d, WORDS * sizeof *d);
+    memcpy(c.m.d_words + GUARD, d, WORDS * sizeof *d);
     memcpy(c.work + GUARD, work, WORK * sizeof *work);
     c.done_after = done_after;
     c.complete = complete;
@@ -104,7 +92,7 @@ static void check_flat(void)
 
 static void check_calls(void)
 {
-    contraction c = matrices();
+    contraction c = product();
     const uint32_t old[] = {100, 200, 300, 400}, unchanged[] = {50, 51, 52, 53, 54, 55};
     const uint32_t three[] = {211, 402, 300, 400}, last_of_three[] = {5, 0, 2, 0, 54, 55};
     const uint32_t all[] = {211, 414, 608, 810}, last_of_all[] = {6, 0, 1, 0, 54, 55};
@@ -115,17 +103,17 @@ static void check_calls(void)
     c.budget = UINT64_MAX;
     check("all tiles", runs(c, 8, 1, all, last_of_all));
     c.done = 3;
-    memcpy(c.d_words + GUARD, three, sizeof three);
+    memcpy(c.m.d_words + GUARD, three, sizeof three);
     check("the rest after three tiles", runs(c, 8, 1, all, last_of_all));
     c.done = 8;
-    memcpy(c.d_words + GUARD, all, sizeof all);
+    memcpy(c.m.d_words + GUARD, all, sizeof all);
     check("nothing is left after the last tile", runs(c, 8, 1, all, unchanged));
 }
 
 /* Rows and columns of a tile that differ: the first of four tiles, and the word of its second row. */
 static void check_uneven(void)
 {
-    contraction c = matrices();
+    contraction c = product();
     c.rows = 2;
     c.budget = 1;
     const uint32_t first[] = {201, 402, 300, 400}, packed[] = {1, 2, 3, 4, 1, 0};
@@ -139,7 +127,7 @@ static void check_states(void)
 {
     static const uint32_t states[9][4] = {{0, 0, 0, 0}, {1, 0, 0, 0}, {1, 1, 0, 0}, {2, 1, 0, 0}, {2, 2, 0, 0},
                                           {2, 2, 1, 0}, {2, 2, 1, 1}, {2, 2, 2, 1}, {2, 2, 2, 2}};
-    contraction c = matrices();
+    contraction c = product();
     int hold = 1;
     for (c.done = 0; c.done <= 8; c.done++) {
         for (unsigned n = 0; n < 4; n++) {
@@ -158,7 +146,7 @@ static void check_states(void)
 static void check_refusals(void)
 {
     static const int32_t equal[2] = {1, 1};
-    contraction c = matrices();
+    contraction c = product();
     c.column = 2;
     not_asked("13: a column count outside its group", c, 13);
     c.done = 9;
@@ -170,7 +158,7 @@ static void check_refusals(void)
     c.depth = 129;
     refused("10: a depth over 128", c, 10);
     not_asked("10: also of a state", c, 10);
-    c.d.strides = equal;
+    c.m.d.strides = equal;
     refused("9: the questions of the plain call come first", c, 9);
     not_asked("9: also of a state", c, 9);
 }

@@ -4,9 +4,10 @@ import os
 import random
 import re
 
+from checking import expect
 from examples import EXAMPLES, JOBS
 from files import GOOD, byte_words, job_with, layout, matrix_records, words
-from running import READING, brief, contents, expect
+from running import READING, brief, contents
 
 
 def expect_refused(bench, job, message, byte=None, record=None):

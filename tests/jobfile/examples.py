@@ -2,7 +2,8 @@
 
 import os
 
-from running import ROOT, contents, expect
+from checking import expect
+from running import ROOT, contents
 
 JOBS = os.path.join(ROOT, "examples", "jobs")
 EXAMPLES = ["bat_call", "diagonal", "matrix", "matrix_three_tiles", "refused", "reversed"]

@@ -2,8 +2,9 @@
 
 import random
 
+from checking import expect
 from files import byte_words, go, layout, words
-from running import brief, expect
+from running import brief
 
 
 def random_words(rng, tensor):

@@ -7,18 +7,11 @@ import os
 import subprocess
 import sys
 
+from checking import Failed, expect
+
 ROOT = os.path.dirname(os.path.dirname(os.path.dirname(os.path.abspath(__file__))))
 TOOL = os.path.join(ROOT, "tools", "jobfile.py")
 READING = (1, 20, 21, 22, 23)  # the numbers that a file is refused with before any question is asked
-
-
-class Failed(Exception):
-    pass
-
-
-def expect(holds, *what):
-    if not holds:
-        raise Failed(" ".join(map(str, what)))
 
 
 def load_tool():

@@ -5,8 +5,9 @@ import shutil
 import subprocess
 import sys
 
+from checking import expect
 from files import GOOD, job_with, words
-from running import TOOL, contents, expect
+from running import TOOL, contents
 
 
 def misuses(bench, text):

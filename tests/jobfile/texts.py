@@ -4,8 +4,9 @@ import os
 import random
 import re
 
+from checking import expect
 from files import GOOD, byte_words, go, job_with, layout, words
-from running import brief, expect
+from running import brief
 
 
 def changed(line, text):

@@ -10,9 +10,8 @@ use lib.ListN.{length, getD, drop, set, length-append, length-drop, List·getD-a
 use lib.Seq.{append-snoc, drop-cons, drop-at, drop-length, set-at}
 use Rattle.words.specs.Lists.{tabulate}
 use Rattle.words.specs.Loops.{each, put}
-use Rattle.words.proofs.Store.{length-put, length-each}
 use Rattle.words.proofs.Tabulate.{length-tabulate, getD-tabulate, tabulate-ext, tabulate-suc}
-use Rattle.blocks.specs.Packed.{stored, front}
+use Rattle.blocks.specs.Kernel.{stored, front}
 
 pub length-front : (n : ℕ) (f : ℕ → ℕ) (xs : List ℕ) → n ≤ length xs → length (front n f xs) ≡ length xs
 unfolding front
@@ -60,10 +59,6 @@ stored-front (suc m) n v f xs h e =
     ap (λ (l : List ℕ). set l (n + m) (v m)) (stored-front m n v f xs (omega arith) (λ i k. e i (omega arith)))
     ∙ front-set f xs (n + m) (v m) (omega arith) (e m (omega arith))
     ∙ ap (λ (k : ℕ). front k f xs) (omega arith)
-
-pub length-stored : (n : ℕ) (v : ℕ → ℕ) (to : ℕ) (xs : List ℕ) → length (stored n v to xs) ≡ length xs
-unfolding stored
-length-stored n v to xs = length-each n (λ r. put (λ w. v r) (to + r)) (λ r. length-put (λ w. v r) (to + r)) xs
 
 -- no word stored, and one word more
 pub stored-none : (v : ℕ → ℕ) (to : ℕ) (xs : List ℕ) → stored 0 v to xs ≡ xs

@@ -1,4 +1,4 @@
--- Packed blocks, word by word and lane by lane: lane n and depth d stand at width × d + n, whose two digits to the base `width` give them back.
+-- Packed blocks, word by word and lane by lane: place n of lane d is word width × d + n, whose two digits to the base `width` give them back.
 -- To store a lane and zeros up to its end makes the packed front one lane longer, and zeros stored in the lanes not filled complete it.
 -- Assumes nothing.
 use mathlib.Core.Path.{_≡_, refl, ap, sym, _∙_}
@@ -12,7 +12,8 @@ use borrow.Author.Tests.{ltb-true, lt-ltb, le-ltb}
 use lib.Arith.{digits-div, digits-mod}
 use lib.Dec.{ltb}
 use lib.ListN.{length}
-use Rattle.blocks.specs.Packed.{stored, front, packedWord}
+use Rattle.blocks.specs.Packed.{packedWord}
+use Rattle.blocks.specs.Kernel.{stored, front}
 use Rattle.blocks.proofs.Fronts.{stored-front}
 
 -- ---- the digits of a place
@@ -26,14 +27,14 @@ lane-div width d h = rw (mul-comm width d) (digits-div d h)
 -- ---- the words
 
 module _ (width count filled : ℕ) (f : ℕ → ℕ → ℕ) where
-  -- lane n of depth d
+  -- place n of lane d
   pub packed-at : (n d : ℕ) → n < count → count ≤ width → d < filled → packedWord width count filled f (width * d + n) ≡ f n d
   unfolding packedWord
   packed-at n d h narrow k =
       let b : n < width = omega arith in
       rw (lane-mod width d b, lane-div width d b, lt-ltb n count h, lt-ltb d filled k)
 
-  -- past the edge of a lane
+  -- past the places of a lane that are in use
   pub packed-past : (n d : ℕ) → count ≤ n → n < width → packedWord width count filled f (width * d + n) ≡ 0
   unfolding packedWord
   packed-past n d h b = rw (lane-mod width d b, le-ltb n count h)
@@ -44,7 +45,7 @@ module _ (width count filled : ℕ) (f : ℕ → ℕ → ℕ) where
   packed-unfilled x wide h =
       rw (le-ltb (x / width) filled (le-div-iff-mul-le wide .1 (rw (mul-comm filled width) h)), and-false (ltb (x % width) count))
 
--- words of the same lanes and depths, said another way
+-- the same words, said another way
 pub packed-ext : (width count filled : ℕ) {f g : ℕ → ℕ → ℕ} → ((n d : ℕ) → n < count → d < filled → f n d ≡ g n d)
     → (x : ℕ) → packedWord width count filled f x ≡ packedWord width count filled g x
 unfolding packedWord

@@ -11,10 +11,10 @@ use native.Mathlib.Omega.{arith}
 use borrow.Author.Tests.{eqb-true, lt-ltb}
 use lib.Dec.{eqb}
 use lib.ListN.{length, getD}
-use Rattle.words.specs.Lists.{tabulate}
+use Rattle.words.specs.Lists.{firstOf}
 use Rattle.words.specs.Words.{word}
 use Rattle.words.proofs.Modular.{word-add-left, word-add-right}
-use Rattle.words.proofs.Tabulate.{length-tabulate, getD-tabulate}
+use Rattle.words.proofs.Tabulate.{length-firstOf, getD-firstOf}
 use Rattle.layout.specs.Limits.{blockLimit}
 use Rattle.contraction.specs.Block.{Step, even, scattered, steps, stepFrom, classify, blockStep}
 use Rattle.blocks.specs.Block.{placeOf, nextPlace, Stepped}
@@ -41,10 +41,9 @@ offset-at : (s : ℕ) (offsets : List ℕ) (count : ℕ) → even s ≡ blockSte
 unfolding blockStep
 offset-at s offsets count e few i h =
     let all : min count blockLimit ≡ count = omega arith in
-    let f : ℕ → ℕ = λ k. getD offsets k 0 in
-    let z : even s ≡ classify (tabulate count f) = rw all at e in
-    sym (getD-tabulate count f (i + 1) 0 h) ∙ even-at s (tabulate count f) z i (omega (arith, length-tabulate count f))
-    ∙ ap (λ (x : ℕ). word 64 (x + s)) (getD-tabulate count f i 0 (omega arith))
+    let z : even s ≡ classify (firstOf count 0 offsets) = rw all at e in
+    sym (getD-firstOf count 0 offsets (i + 1) h) ∙ even-at s (firstOf count 0 offsets) z i (omega (arith, length-firstOf count 0 offsets))
+    ∙ ap (λ (x : ℕ). word 64 (x + s)) (getD-firstOf count 0 offsets i (omega arith))
 
 pub next-reaches : (from : ℕ) (offsets : List ℕ) (count : ℕ) (s : Step) → Stepped count offsets s → count ≤ blockLimit → (i : ℕ) → i + 1 < count
     → nextPlace (placeOf from offsets i) from offsets s (i + 1) ≡ placeOf from offsets (i + 1)
@@ -53,3 +52,8 @@ next-reaches from offsets count (even s) w few i h =
     let x = getD offsets i 0 in
     word-add-left 64 (from + x) s ∙ ap (word 64) (add-assoc from x s) ∙ sym (word-add-right 64 from (x + s))
     ∙ ap (λ (y : ℕ). word 64 (from + y)) (sym (offset-at s offsets count (w .step) few i h))
+
+-- and so from an address that is the place before
+pub reaches : (from : ℕ) (offsets : List ℕ) {count : ℕ} (s : Step) → Stepped count offsets s → count ≤ blockLimit → (i j : ℕ) {at r : ℕ} → j ≡ i + 1 → j < count
+    → at ≡ placeOf from offsets i → r ≡ nextPlace at from offsets s j → r ≡ placeOf from offsets j
+reaches from offsets {count} s w few i j e h a n = n ∙ rw (e, a) (next-reaches from offsets count s w few i (omega arith))

@@ -7,6 +7,7 @@ use mathlib.Core.List.{List}
 use lib.Dec.{ltb}
 use lib.ListN.{getD}
 use Rattle.words.specs.Words.{word, wordOf}
+use Rattle.words.specs.Loops.{each, put, Within}
 use Rattle.layout.specs.Limits.{blockLimit}
 use Rattle.contraction.specs.Operands.{Operand, three}
 use Rattle.contraction.specs.Groups.{Label, offsetIn}
@@ -14,7 +15,9 @@ use Rattle.contraction.specs.Block.{Step, even, scattered, blockStep}
 use Rattle.blocks.specs.declared.block.Step.{Step as StepCode}
 use Rattle.blocks.specs.declared.block.Block.{Block}
 use Rattle.blocks.specs.declared.offsets.Blocks.{Blocks}
-use Rattle.blocks.specs.Packed.{front}
+use Rattle.blocks.specs.declared.store.Factors.{Factors}
+use Rattle.blocks.specs.declared.multiply.Packing.{Packing}
+use Rattle.blocks.specs.Kernel.{front, tileSum, addedTo}
 
 -- the step that the code's enum gives
 abbrev pub asStep : StepCode → Step
@@ -40,17 +43,13 @@ nextPlace at from offsets scattered i = cond (ltb i blockLimit) (placeOf from of
 pub record Stepped (count : ℕ) (offsets : List ℕ) (s : Step) : Type 0 where
   pub step : s ≡ blockStep count offsets
 
--- each place of a block is one of a slice of `size` words
-pub record Places (from : ℕ) (offsets : List ℕ) (count size : ℕ) : Type 0 where
-  pub each : (i : ℕ) → i < count → placeOf from offsets i < size
-
--- and so from each of the first n starts
+-- from each of the first n starts, each place of a block is one of a slice of `size` words
 pub record PlacesAt (starts : List ℕ) (n : ℕ) (offsets : List ℕ) (count size : ℕ) : Type 0 where
-  pub each : (d : ℕ) → d < n → Places (getD starts d 0) offsets count size
+  pub each : (d : ℕ) → d < n → Within count (placeOf (getD starts d 0) offsets) size
 
--- and so from each place of another block
+-- from each of the first n places of another block, each place of a block is one of a slice of `size` words
 pub record PlacesIn (from : ℕ) (outer : List ℕ) (n : ℕ) (offsets : List ℕ) (count size : ℕ) : Type 0 where
-  pub each : (c : ℕ) → c < n → Places (placeOf from outer c) offsets count size
+  pub each : (c : ℕ) → c < n → Within count (placeOf (placeOf from outer c) offsets) size
 
 -- ---- the offsets of a group's counts
 
@@ -66,3 +65,9 @@ pub record Blocked (g : List Label) (first count : ℕ) (b : Blocks) : Type 0 wh
   pub used : (o : Operand) → blocksIn b o .count ≡ count
   pub step : (o : Operand) → Stepped count (blocksIn b o .offsets) (asStep (blocksIn b o .step))
   pub offsets : (o : Operand) (k : ℕ) → k < count → getD (blocksIn b o .offsets) k 0 ≡ word 64 (offsetIn (wordOf 64) o g (first + k))
+
+-- ---- what a tile stores
+
+-- D's words with the sums of the tile's column c added at the places of its rows; `from` is where the tile's batch count leaves D
+abbrev pub columnStored : List ℕ → Packing → Factors → ℕ → List ℕ → List ℕ → ℕ → ℕ → List ℕ → List ℕ
+columnStored work p f from columns rows count c = each count (λ r. put (addedTo f (word 32 (tileSum work p r c))) (placeOf (placeOf from columns c) rows r))

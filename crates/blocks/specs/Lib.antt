@@ -1,2 +1,4 @@
 pub mod Packed
+pub mod Kernel
 pub mod Block
+pub mod Needs

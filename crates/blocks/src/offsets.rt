@@ -2,11 +2,13 @@ ghost use Prim.Native.Nat.{_+_, _^_, _<_, _≤_};
 ghost use lib.ListN.{length};
 ghost use Rattle.layout.specs.Limits.{axesLimit, blockLimit};
 ghost use Rattle.contraction.specs.Operands.{three};
-ghost use Rattle.contraction.specs.Groups.{size, labelsIn};
+ghost use Rattle.contraction.specs.Groups.{size};
+ghost use Rattle.contraction.specs.Held.{labelsIn};
 ghost use Rattle.contraction.specs.Offsets.{wordsIn};
 ghost use Rattle.blocks.specs.Block.{Laid, Blocked};
 use super::block::Block;
 use contraction::groups::Group;
+use contraction::lead::Lead;
 use contraction::offsets::Offsets;
 use layout::limits::Limits;
 
@@ -17,7 +19,8 @@ pub struct Blocks {
     pub d: Block,
 }
 
-// The offsets of `count` counts of a group from `first` on, in each tensor, moved by `from`.
+// The offsets of `count` counts of a group from `first` on, in each tensor, moved by `from`. They are formed anew where the first label starts again, and a
+// step is added elsewhere; `left` is how many steps there are up to the next start.
 pub fn lay(
     g: Group,
     from: Offsets,
@@ -30,9 +33,21 @@ pub fn lay(
     requires { ⌜ (g .count ≤ axesLimit) × (size (labelsIn g) < 2 ^ 32) × (first + count ≤ size (labelsIn g)) × (count ≤ length (now a)) × (count ≤ length (now b)) × (count ≤ length (now d)) ⌝ }
     ensures { λ _. ⌜ Laid (wordsIn from) (labelsIn g) first count (three (now (a .entry)) (now (b .entry)) (now (d .entry))) (three (now (a .exit)) (now (b .exit)) (now (d .exit))) ⌝ }
 {
+    let lead = Lead::of(g);
+    let step = lead.step;
+    let len = lead.len;
+    let mut at = from;
+    let mut left: u32 = 0;
     let mut k: usize = 0;
     while k < count {
-        let at = from.plus(Offsets::of(g, first + (k as u32)));
+        if left == 0 {
+            let n = first + (k as u32);
+            at = from.plus(Offsets::of(g, n));
+            left = len - n % len;
+        } else {
+            at = at.plus(step);
+        }
+        left -= 1;
         a[k] = at.a;
         b[k] = at.b;
         d[k] = at.d;

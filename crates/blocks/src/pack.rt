@@ -1,15 +1,18 @@
 ghost use mathlib.Core.Path.{_≡_};
 ghost use Prim.Native.Nat.{_+_, _-_, _*_, _≤_};
 ghost use lib.ListN.{length, getD};
-ghost use Rattle.layout.specs.Limits.{blockLimit, depthLimit};
-ghost use Rattle.blocks.specs.Block.{placeOf, asStep, Stepped, Places, PlacesAt};
-ghost use Rattle.blocks.specs.Packed.{stored, front, packedWord};
+ghost use Rattle.words.specs.Loops.{Within};
+ghost use Rattle.layout.specs.Limits.{blockLimit};
+ghost use Rattle.blocks.specs.Block.{placeOf, asStep, Stepped};
+ghost use Rattle.blocks.specs.Packed.{packedWord};
+ghost use Rattle.blocks.specs.Kernel.{stored, front};
+ghost use Rattle.blocks.specs.Needs.{Packable};
 use super::block::Block;
 use super::block::Step;
 use super::place::next_place;
 use layout::limits::Limits;
 
-// The words at the places of a block, one after the other from `to` on.
+// A lane: the words at the places of a block, one after the other from `to` on.
 fn pack_lane(
     src: &[u32],
     from: u64,
@@ -19,7 +22,7 @@ fn pack_lane(
     out: &mut [u32],
     to: usize,
 )
-    requires { ⌜ (count ≤ blockLimit) × Stepped count (now offsets) (asStep step) × Places from (now offsets) count (length (now src)) × (to + count ≤ length (now out)) ⌝ }
+    requires { ⌜ (count ≤ blockLimit) × Stepped count (now offsets) (asStep step) × Within count (placeOf from (now offsets)) (length (now src)) × (to + count ≤ length (now out)) ⌝ }
     ensures { λ _. ⌜ now (out .exit) ≡ stored count (λ r. getD (now (src .entry)) (placeOf from (now (offsets .entry)) r) 0) to (now (out .entry)) ⌝ }
 {
     let mut at = std::num::wrapping_add_u64(from, offsets[0]);
@@ -43,7 +46,7 @@ fn clear(out: &mut [u32], to: usize, end: usize)
     }
 }
 
-// A packed block: lane n and depth d at n + width × d, and 0 past the edge. `starts` has where each of the first `filled` depth counts begins.
+// A packed block: place n of lane d at n + width × d, and 0 past the edge. `starts` has where the block begins at each of the first `filled` depth counts.
 pub fn pack(
     src: &[u32],
     starts: &[u64; Limits::DEPTH],
@@ -53,7 +56,7 @@ pub fn pack(
     depth: usize,
     out: &mut [u32],
 )
-    requires { ⌜ (block .count ≤ width) × (block .count ≤ blockLimit) × (width ≤ blockLimit) × (filled ≤ depth) × (depth ≤ depthLimit) × Stepped (block .count) (block .offsets) (asStep (block .step)) × PlacesAt (now starts) filled (block .offsets) (block .count) (length (now src)) × (width * depth ≤ length (now out)) ⌝ }
+    requires { ⌜ Packable (now starts) filled block width depth (length (now src)) (length (now out)) ⌝ }
     ensures { λ _. ⌜ now (out .exit) ≡ front (width * depth) (packedWord width (block .count) filled (λ n d. getD (now (src .entry)) (placeOf (getD (now (starts .entry)) d 0) (block .offsets) n) 0)) (now (out .entry)) ⌝ }
 {
     let offsets = block.offsets;

@@ -3,10 +3,10 @@ ghost use mathlib.Core.Bool.{cond};
 ghost use Prim.Native.Nat.{_*_, _≤_};
 ghost use lib.ListN.{length, getD};
 ghost use Rattle.words.specs.Words.{word};
-ghost use Rattle.words.specs.Loops.{each, put};
+ghost use Rattle.words.specs.Loops.{each, put, Within};
 ghost use Rattle.layout.specs.Limits.{blockLimit};
-ghost use Rattle.blocks.specs.Block.{placeOf, asStep, Stepped, Places};
-ghost use Rattle.blocks.specs.Packed.{addedTo};
+ghost use Rattle.blocks.specs.Block.{placeOf, asStep, Stepped};
+ghost use Rattle.blocks.specs.Kernel.{addedTo};
 use super::block::Step;
 use super::place::next_place;
 use layout::limits::Limits;
@@ -26,17 +26,17 @@ fn begun(first: bool, beta: u32, old: u32) -> u32
 }
 
 // The sums of a column, added to D's words at the places of its rows.
-pub fn store_lane(
+pub fn store_column(
     d: &mut [u32],
     from: u64,
     offsets: &[u64; Limits::BLOCK],
     count: usize,
     step: Step,
-    sums: [u32; Limits::BLOCK],
+    sums: &[u32; Limits::BLOCK],
     f: Factors,
 )
-    requires { ⌜ (count ≤ blockLimit) × Stepped count (now offsets) (asStep step) × Places from (now offsets) count (length (now d)) ⌝ }
-    ensures { λ _. ⌜ now (d .exit) ≡ each count (λ r. put (addedTo f (getD sums r 0)) (placeOf from (now (offsets .entry)) r)) (now (d .entry)) ⌝ }
+    requires { ⌜ (count ≤ blockLimit) × Stepped count (now offsets) (asStep step) × Within count (placeOf from (now offsets)) (length (now d)) ⌝ }
+    ensures { λ _. ⌜ now (d .exit) ≡ each count (λ r. put (addedTo f (getD (now (sums .entry)) r 0)) (placeOf from (now (offsets .entry)) r)) (now (d .entry)) ⌝ }
 {
     let mut at = std::num::wrapping_add_u64(from, offsets[0]);
     let mut r: usize = 0;

@@ -9,12 +9,11 @@ use native.Mathlib.Decide.{ℕ-discrete}
 use native.Mathlib.Omega.{arith}
 use borrow.Author.Tests.{leb-true}
 use lib.Dec.{leb}
-use lib.ListN.{getD}
 use Rattle.words.specs.Sums.{product}
 use Rattle.words.specs.Lists.{keep}
 use Rattle.words.proofs.Lists.{all-of, all-map}
 use Rattle.words.proofs.Sums.{product-keep, product-map, and-split}
-use Rattle.words.proofs.Tabulate.{length-tabulate}
+use Rattle.words.proofs.Tabulate.{length-firstOf}
 use Rattle.layout.specs.declared.layout.Layout.{Layout}
 use Rattle.layout.specs.Limits.{rankLimit, baseLimit, sliceLimit, productLimit}
 use Rattle.layout.specs.Layout.{noAxis, axes}
@@ -24,11 +23,12 @@ use Rattle.layout.proofs.Facts.{extents-bound, strides-bound}
 use Rattle.contraction.specs.declared.contraction.Contraction.{Contraction}
 use Rattle.contraction.specs.declared.contraction.Lengths.{Lengths}
 use Rattle.contraction.specs.declared.operands.Operands.{Operands}
-use Rattle.contraction.specs.Operands.{Operand, tensors, lengths, shape, shapeOf, together}
+use Rattle.contraction.specs.Operands.{Operand, tensors, lengths, shape, together}
 use Rattle.contraction.specs.Groups.{Label, Group, inGroup, labelsWhere, group, outputs, label, size}
-use Rattle.contraction.specs.Fold.{addTo, fold}
+use Rattle.contraction.specs.Fold.{fold}
+use Rattle.contraction.specs.Held.{shapeOf, addTo}
 use Rattle.contraction.specs.Questions.{refusal, eachTensor, allLabels, entries, layoutQuestions}
-use Rattle.contraction.specs.Ready.{LowRank, Lists, Gathered, Small, Foldable, Accepted}
+use Rattle.contraction.specs.Ready.{LowRank, Lists, Gathered, Small, Foldable, LayoutsPass}
 use Rattle.contraction.proofs.Refusal.{refusal-both}
 use Rattle.contraction.proofs.Ready.{AllPassed, every-together, low-rank, ready-of}
 use Rattle.contraction.proofs.Folding.{Folding, fold-start, fold-end, fold-skip, fold-add}
@@ -46,7 +46,7 @@ module _ (t : Operand → Layout) (n : Operand → ℕ) (p : AllPassed t n) wher
             λ o. omega (
               arith,
               leb-true (t o .«letter_count») rankLimit (p .each .ranks o),
-              length-tabulate (t o .«letter_count») (λ i. getD (t o .axes) i noAxis),
+              length-firstOf (t o .«letter_count») noAxis (t o .axes),
               strides-bound (axes (t o)) (and-split (stridesValid (axes (t o))) (leb (t o .base) baseLimit && leb (n o) sliceLimit) (rw (p .each .sizes o) tt) .0) c,
             );
       }
@@ -83,7 +83,7 @@ fold-foldable g h = go g [] (fold-start g h)
         step (yes e) f g = f e
         step (no e) f g = g e
 
-module _ (c : Contraction) (n : Lengths) (a : Accepted (tensors c) (lengths n)) where
+module _ (c : Contraction) (n : Lengths) (a : LayoutsPass (tensors c) (lengths n)) where
   each-accepted : refusal (eachTensor (tensors c) (lengths n)) ≡ 0
   unfolding layoutQuestions eachTensor
   each-accepted = refusal-both (eachTensor (tensors c) (lengths n)) (allLabels (tensors c) (lengths n) ++ entries (tensors c) (lengths n)) tt (a .passed) .0

@@ -14,7 +14,8 @@ use Rattle.words.specs.Lists.{keep}
 use Rattle.words.specs.Words.{up, down}
 use Rattle.layout.specs.Limits.{productLimit}
 use Rattle.contraction.specs.Groups.{Label, size}
-use Rattle.contraction.specs.Fold.{eqℤ, joins, join, joinFrom, joinAll, counts, fold, addTo}
+use Rattle.contraction.specs.Fold.{eqℤ, joins, join, joinFrom, joinAll, counts, fold}
+use Rattle.contraction.specs.Held.{addTo}
 use Rattle.contraction.specs.Ready.{Small, Foldable}
 
 -- two whole numbers are equal where both parts are

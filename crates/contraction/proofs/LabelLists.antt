@@ -3,19 +3,20 @@
 use mathlib.Core.Path.{_≡_, ap, _∙_, fun-ext}
 use mathlib.Core.List.{List, [], _∷_, _++_, map, map-append}
 use Prim.Native.Nat.{ℕ, _+_, _<_}
-use native.Mathlib.Numerals.{add-one}
 use lib.ListN.{length, getD, set}
 use lib.IntN.{ℤ}
-use Rattle.words.specs.Lists.{tabulate}
+use Rattle.words.specs.Lists.{firstOf}
 use Rattle.words.specs.Words.{wordOf, signed}
-use Rattle.words.proofs.Tabulate.{tabulate-suc, tabulate-push}
-use Rattle.layout.specs.Labels.{strideOf, extentOf, listed}
+use Rattle.words.proofs.Tabulate.{firstOf-suc, firstOf-push}
+use Rattle.layout.specs.Labels.{strideOf, extentOf}
+use Rattle.layout.specs.Checked.{listed}
 use Rattle.layout.proofs.Facts.{signed-stride}
 use Rattle.contraction.specs.declared.operands.Operands.{Operands}
 use Rattle.contraction.specs.declared.groups.Dim.{Dim}
 use Rattle.contraction.specs.declared.groups.Group.{Group}
-use Rattle.contraction.specs.Operands.{Operand, A, B, D, three, together, axesIn, shapeOf}
-use Rattle.contraction.specs.Groups.{label, asLabel, noDim, labelsIn}
+use Rattle.contraction.specs.Operands.{Operand, A, B, D, three, together}
+use Rattle.contraction.specs.Groups.{label}
+use Rattle.contraction.specs.Held.{axesIn, shapeOf, asLabel, noDim, labelsIn}
 use Rattle.contraction.specs.Ready.{Gathered}
 
 -- an array of which the first n places are in use
@@ -25,14 +26,12 @@ holding dims n = record { dims = dims; count = n }
 -- with one more stored behind them
 pub labels-push : (dims : List Dim) (n : ℕ) (l : Dim) → n < length dims → labelsIn (holding (set dims n l) (n + 1)) ≡ labelsIn (holding dims n) ++ asLabel l ∷ []
 unfolding labelsIn
-labels-push dims n l h = ap (map asLabel) (tabulate-push noDim dims n l h) ∙ map-append asLabel (tabulate n (λ i. getD dims i noDim)) (l ∷ [])
+labels-push dims n l h = ap (map asLabel) (firstOf-push noDim dims n l h) ∙ map-append asLabel (firstOf n noDim dims) (l ∷ [])
 
 -- with the place behind them in use too
 pub labels-last : (dims : List Dim) (n : ℕ) → labelsIn (holding dims (n + 1)) ≡ labelsIn (holding dims n) ++ asLabel (getD dims n noDim) ∷ []
 unfolding labelsIn
-labels-last dims n =
-    rw (add-one)
-    (ap (map asLabel) (tabulate-suc n (λ i. getD dims i noDim)) ∙ map-append asLabel (tabulate n (λ i. getD dims i noDim)) (getD dims n noDim ∷ []))
+labels-last dims n = ap (map asLabel) (firstOf-suc n noDim dims) ∙ map-append asLabel (firstOf n noDim dims) (getD dims n noDim ∷ [])
 
 -- a letter's label: its extent in all axes together, and its strides by their address words
 pub as-label : (x : Operands) → Gathered x → (c : ℕ)

@@ -22,27 +22,35 @@ use Rattle.contraction.proofs.Index.{letter-in, group-same}
 pub record Lacks (s : Shape) (o : Operand) (g : Group) : Type 0 where
   pub each : (c : ℕ) → member c (letters s o) ≡ true → number (groupOf s c) ≢ number g
 
-module _ (s : Shape) where
-  -- A lacks the column labels, and B the row labels
-  pub a-lacks : Lacks s A column
-  unfolding groupOf
-  a-lacks = record { each = λ c e. rw e (go (member c (letters s B)) (member c (letters s D))) }
-    where
-      go : (b d : Bool) → number (groupBy true b d) ≢ 2
-      go true true = omega arith
-      go false true = omega arith
-      go true false = omega arith
-      go false false = omega arith
+-- A has no column label, B no row label and D no depth label
+abbrev pub lacking : Operand → Group
+lacking A = column
+lacking B = row
+lacking D = depth
 
-  pub b-lacks : Lacks s B row
+-- the group of a label that the tensor has, by whether the other two have it
+abbrev groupWith : Operand → Bool → Bool → Group
+groupWith A b d = groupBy true b d
+groupWith B a d = groupBy a true d
+groupWith D a b = groupBy a b true
+
+other-group : (o : Operand) (x y : Bool) → number (groupWith o x y) ≢ number (lacking o)
+other-group A x false = omega arith
+other-group A true true = omega arith
+other-group A false true = omega arith
+other-group B x false = omega arith
+other-group B true true = omega arith
+other-group B false true = omega arith
+other-group D x false = omega arith
+other-group D true true = omega arith
+other-group D false true = omega arith
+
+module _ (s : Shape) where
+  pub lacks : (o : Operand) → Lacks s o (lacking o)
   unfolding groupOf
-  b-lacks = record { each = λ c e. rw e (go (member c (letters s A)) (member c (letters s D))) }
-    where
-      go : (a d : Bool) → number (groupBy a true d) ≢ 1
-      go true true = omega arith
-      go false true = omega arith
-      go true false = omega arith
-      go false false = omega arith
+  lacks A = record { each = λ c e. rw e (other-group A (member c (letters s B)) (member c (letters s D))) }
+  lacks B = record { each = λ c e. rw e (other-group B (member c (letters s A)) (member c (letters s D))) }
+  lacks D = record { each = λ c e. rw e (other-group D (member c (letters s A)) (member c (letters s B))) }
 
   -- the index at a letter of a group, by that group's count alone
   index-in : (n : Group → ℕ) (c : ℕ) → member c (labels (together s)) ≡ true → (g : Group) → groupOf s c ≡ g → index s n c ≡ at (group s g) (n g) (λ d. 0) c

@@ -16,6 +16,7 @@ pub mod Reached
 pub mod Ready
 pub mod Refusal
 pub mod Result
+pub mod Runs
 pub mod Sets
 pub mod SliceLengths
 pub mod Starred

@@ -13,13 +13,13 @@ use Rattle.layout.specs.declared.layout.Axis.{Axis}
 use Rattle.layout.specs.declared.layout.Layout.{Layout}
 use Rattle.layout.specs.Limits.{rankLimit, baseLimit, sliceLimit}
 use Rattle.layout.specs.Layout.{axes}
-use Rattle.layout.specs.Labels.{listed}
-use Rattle.layout.specs.Checked.{Checked}
+use Rattle.layout.specs.Checked.{listed, Checked}
 use Rattle.layout.specs.Questions.{rankFits, countsMatch, lettersValid, extentsValid, stridesValid, sizesValid, extentsAgree, pointsFit, inside, apart}
 use Rattle.contraction.specs.declared.contraction.Contraction.{Contraction}
 use Rattle.contraction.specs.declared.contraction.Lengths.{Lengths}
 use Rattle.contraction.specs.declared.operands.Operands.{Operands}
-use Rattle.contraction.specs.Operands.{Operand, A, B, D, Shape, tensors, lengths, shape, shapeOf, together, axesIn}
+use Rattle.contraction.specs.Operands.{Operand, A, B, D, Shape, tensors, lengths, shape, together}
+use Rattle.contraction.specs.Held.{shapeOf, axesIn}
 use Rattle.contraction.specs.Questions.{refusal, ofEach, eachTensor, allLabels, entries, layoutQuestions}
 use Rattle.contraction.specs.Ready.{LowRank, Lists, Ready}
 use Rattle.contraction.proofs.Refusal.{passed, refusal-both, ofEach-true}

@@ -1,17 +1,15 @@
 -- The result of an accepted contraction holds each output's value at its place, and the old words elsewhere.
 -- Assumes nothing.
-use mathlib.Core.Path.{_≡_, refl, sym, _∙_}
+use mathlib.Core.Path.{_≡_, sym, _∙_}
 use mathlib.Core.Bool.{Bool}
 use mathlib.Core.List.{List, [], _∷_}
 use mathlib.Core.Logic.{_≢_}
-use Prim.Native.Nat.{ℕ, zero, suc, _+_, _*_, _<_}
-use native.Mathlib.Decide.{ℕ-discrete}
-use native.Mathlib.Omega.{arith}
+use Prim.Native.Nat.{ℕ, _+_, _*_, _<_}
 use lib.Dec.{T}
-use lib.ListN.{length, getD, length-set}
-use lib.Seq.{getD-set-same, getD-set-other}
+use lib.ListN.{length, getD}
 use Rattle.words.specs.Sums.{All, sumTo}
 use Rattle.words.specs.Words.{word}
+use Rattle.words.proofs.Store.{length-puts, puts-other, puts-at}
 use Rattle.words.proofs.Lists.{all-member, member-distinct}
 use Rattle.layout.specs.declared.layout.Layout.{Layout}
 use Rattle.layout.specs.Layout.{axes, address}
@@ -24,34 +22,12 @@ use Rattle.contraction.specs.declared.contraction.Contraction.{Contracti
 use Rattle.contraction.specs.Operands.{Operand, A, B, D, tensors, shape, together}
 use Rattle.contraction.specs.Groups.{letters, depth, group, outputs, size}
 use Rattle.contraction.specs.Index.{at, outIndex}
-use Rattle.contraction.specs.Meaning.{Slices, shapeIn, entry, value, overwrite, result}
+use Rattle.contraction.specs.Meaning.{Slices, shapeIn, entry, value, result}
 use Rattle.contraction.proofs.Address.{group-distinct}
 use Rattle.contraction.proofs.Nested.{sumOver-is-sumTo}
 use Rattle.contraction.proofs.Parts.{Below, partsAt, Splits, atParts, parts-in-range, parts-injective}
 use Rattle.contraction.proofs.Outputs.{inD}
 use Rattle.contraction.proofs.Counts.{out-labels, out-in-range}
-
-module _ (place v : ℕ → ℕ) (w : List ℕ) where
-  pub length-overwrite : (n : ℕ) → length (overwrite n place v w) ≡ length w
-  length-overwrite zero = refl
-  length-overwrite (suc n) = simp length-set (length-overwrite n)
-
-  -- a word that is no place keeps its value
-  pub overwrite-other : (n p : ℕ) → ((m : ℕ) → m < n → place m ≢ p) → getD (overwrite n place v w) p 0 ≡ getD w p 0
-  overwrite-other zero p h = refl
-  overwrite-other (suc n) p h =
-      getD-set-other (overwrite n place v w) (place n) p (v n) 0 (λ e. h n (omega arith) (sym e)) ∙ overwrite-other n p (λ m k. h m (omega arith))
-
-  -- a place holds its value, where no two places are the same
-  pub overwrite-at : (n m : ℕ) → m < n → ((i k : ℕ) → i < n → k < n → place i ≡ place k → i ≡ k) → place m < length w
-      → getD (overwrite n place v w) (place m) 0 ≡ v m
-  overwrite-at zero m h inj b = absurd (omega arith)
-  overwrite-at (suc n) m h inj b = go (ℕ-discrete m n) (λ k. overwrite-at n m k (λ i j p q. inj i j (omega arith) (omega arith)) b)
-    where
-      go : Dec (m ≡ n) → (m < n → getD (overwrite n place v w) (place m) 0 ≡ v m) → getD (overwrite (suc n) place v w) (place m) 0 ≡ v m
-      go (yes e) r = rw e (getD-set-same (overwrite n place v w) (place n) (v n) 0 (rw (length-overwrite n, ← e) b))
-      go (no e) r =
-          getD-set-other (overwrite n place v w) (place n) (place m) (v n) 0 (λ p. e (inj m n (omega arith) (omega arith) p)) ∙ r (omega arith)
 
 -- ---- where questions 6, 8 and 9 pass
 module _ (t : Operand → Layout) (n : ℕ) (same : T (extentsAgree (together (shape t)))) (fits : T (inside (axes (t D)) (t D .base) n)) where
@@ -87,21 +63,27 @@ module _ (t : Operand → Layout) (n : ℕ) (same : T (extentsAgree (together (s
       parts-apart spread (λ (u : Unit {0}). inD (shape t)) (tt ∷ []) (out-labels (shape t)) (λ u. i) (λ u. k) (p, tt) (q, tt) e .0
 
 module _ (c : Contraction) (w : Slices) where
+  -- the address of an output count, and the value that is put there
+  abbrev place : ℕ → ℕ
+  place m = address (tensors c D) (outIndex (shapeIn c) m)
+
+  abbrev made : ℕ → ℕ → ℕ
+  made m was = value c w (outIndex (shapeIn c) m)
+
   pub result-at : T (extentsAgree (together (shapeIn c))) → T (inside (axes (tensors c D)) (tensors c D .base) (length (w D))) → T (apart (axes (tensors c D)))
-      → (m : ℕ) → m < size (outputs (shapeIn c)) → getD (result c w) (address (tensors c D) (outIndex (shapeIn c) m)) 0 ≡ value c w (outIndex (shapeIn c) m)
+      → (m : ℕ) → m < size (outputs (shapeIn c)) → getD (result c w) (place m) 0 ≡ value c w (outIndex (shapeIn c) m)
   unfolding result
-  result-at same fits spread m h =
-      overwrite-at (λ m. address (tensors c D) (outIndex (shapeIn c) m)) (λ m. value c w (outIndex (shapeIn c) m)) (w D) (size (outputs (shapeIn c))) m h
-      (outputs-apart (tensors c) (length (w D)) same fits spread) (output-inside (tensors c) (length (w D)) same fits m h .1)
+  result-at same fits spread =
+      puts-at place made (size (outputs (shapeIn c))) (w D)
+      (outputs-apart (tensors c) (length (w D)) same fits spread) (record { each = λ m h. output-inside (tensors c) (length (w D)) same fits m h .1 })
 
   pub length-result : length (result c w) ≡ length (w D)
   unfolding result
-  length-result = length-overwrite (λ m. address (tensors c D) (outIndex (shapeIn c) m)) (λ m. value c w (outIndex (shapeIn c) m)) (w D) (size (outputs (shapeIn c)))
+  length-result = length-puts place made (size (outputs (shapeIn c))) (w D)
 
-  pub result-other : (p : ℕ) → ((m : ℕ) → m < size (outputs (shapeIn c)) → address (tensors c D) (outIndex (shapeIn c) m) ≢ p)
-      → getD (result c w) p 0 ≡ getD (w D) p 0
+  pub result-other : (p : ℕ) → ((m : ℕ) → m < size (outputs (shapeIn c)) → place m ≢ p) → getD (result c w) p 0 ≡ getD (w D) p 0
   unfolding result
-  result-other p h = overwrite-other _ (λ m. value c w (outIndex (shapeIn c) m)) (w D) _ p h
+  result-other p = puts-other place made (size (outputs (shapeIn c))) p (w D)
 
   -- the product of the entries of A and B at a depth count
   abbrev pub term : (ℕ → ℕ) → ℕ → ℕ

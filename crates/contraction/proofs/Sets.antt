@@ -12,12 +12,15 @@ use Rattle.words.proofs.Sums.{every-all}
 use Rattle.layout.specs.declared.layout.Axis.{Axis}
 use Rattle.layout.specs.declared.letters.Letters.{Letters}
 use Rattle.layout.specs.Layout.{lettersOf}
-use Rattle.layout.specs.Labels.{labels, listed}
-use Rattle.layout.specs.Letters.{isLetter, has, Spells}
+use Rattle.layout.specs.Labels.{labels}
+use Rattle.layout.specs.Checked.{listed}
+use Rattle.layout.specs.Letters.{isLetter}
+use Rattle.layout.specs.LetterSets.{has, Spells}
 use Rattle.layout.specs.Questions.{lettersValid}
 use Rattle.contraction.specs.declared.groups.Sets.{Sets}
 use Rattle.contraction.specs.declared.operands.Operands.{Operands}
-use Rattle.contraction.specs.Operands.{Operand, A, B, D, together, shapeOf}
+use Rattle.contraction.specs.Operands.{Operand, A, B, D, together}
+use Rattle.contraction.specs.Held.{shapeOf}
 use Rattle.contraction.specs.Groups.{Group, batch, row, column, depth, groupBy, groupOf, number, inGroup, group, outputs, label, letters}
 use Rattle.contraction.specs.Sets.{Split}
 use Rattle.contraction.specs.Ready.{Gathered}

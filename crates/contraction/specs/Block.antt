@@ -5,8 +5,7 @@ use Prim.Native.Nat.{ℕ, _+_, _-_, _^_, min}
 use mathlib.Core.Bool.{Bool, true, cond, _&&_}
 use mathlib.Core.List.{List, [], _∷_}
 use lib.Dec.{eqb}
-use lib.ListN.{getD}
-use Rattle.words.specs.Lists.{tabulate}
+use Rattle.words.specs.Lists.{firstOf}
 use Rattle.words.specs.Words.{word}
 use Rattle.layout.specs.Limits.{blockLimit}
 
@@ -30,7 +29,7 @@ classify (x ∷ y ∷ ys) = cond (steps (stepFrom x y) x (y ∷ ys)) (even (step
 
 -- of an array of offsets those in use: a count above the limit is read as the limit
 abbrev pub inUse : ℕ → List ℕ → List ℕ
-inUse count offsets = tabulate (min count blockLimit) (λ i. getD offsets i 0)
+inUse count offsets = firstOf (min count blockLimit) 0 offsets
 
 -- the step of a block with that many of the offsets in use
 unfoldable pub blockStep : ℕ → List ℕ → Step

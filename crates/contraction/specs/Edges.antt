@@ -1,4 +1,4 @@
--- The starred edges of document 01, as one table. Strides 1, beta 0, alpha 1 unless given.
+-- The ten small cases of the rules that are proved, as one table, each quoted above its rows. Strides 1, beta 0, alpha 1 unless given.
 -- Assumes nothing.
 use Prim.Native.Nat.{ℕ}
 use mathlib.Core.Path.{_≡_}
@@ -50,17 +50,27 @@ lab c e s = record { letter = c; extent = e; stride = λ o. s }
 
 abbrev pub edges : List Edge
 edges =
+    -- 1. No letters, A 3, B 5, D 7, alpha 2, beta 1: 37.
     gives (contractionOf scalar scalar scalar 2 1) (three (3 ∷ []) (5 ∷ []) (7 ∷ [])) (37 ∷ [])
+    -- 2. A and B 4294967295: 1.
     ∷ gives (plain scalar scalar scalar) (three (4294967295 ∷ []) (4294967295 ∷ []) (0 ∷ [])) (1 ∷ [])
+    -- 3. A `i` 1 2 3, B 10 without letters, D without: 60.
     ∷ gives (plain (vector 3 (pos 1) 0) scalar scalar) (three (1 ∷ 2 ∷ 3 ∷ []) (10 ∷ []) (0 ∷ [])) (60 ∷ [])
+    -- 4. A 2, B 3, D `i` extent 2: 6 6.
     ∷ gives (plain scalar scalar (vector 2 (pos 1) 0)) (three (2 ∷ []) (3 ∷ []) (0 ∷ 0 ∷ [])) (6 ∷ 6 ∷ [])
+    -- 5. A `ii` extents 2 2 strides 1 2 words 1 2 3 4, B 1: 5.
     ∷ gives (plain (diagonal 2 (pos 1) 2 (pos 2)) scalar scalar) (three (1 ∷ 2 ∷ 3 ∷ 4 ∷ []) (1 ∷ []) (0 ∷ [])) (5 ∷ [])
+    -- 6. `i,i` to `i`, 2 3 and 5 7: 10 21.
     ∷ gives (plain (vector 2 (pos 1) 0) (vector 2 (pos 1) 0) (vector 2 (pos 1) 0)) (three (2 ∷ 3 ∷ []) (5 ∷ 7 ∷ []) (0 ∷ 0 ∷ [])) (10 ∷ 21 ∷ [])
+    -- 7. A `i`, base 2, stride -1, words 1 2 3; B `i` 1 0 0; D scalar: 3.
     ∷ gives (plain (vector 3 (negsuc 0) 2) (vector 3 (pos 1) 0) scalar) (three (1 ∷ 2 ∷ 3 ∷ []) (1 ∷ 0 ∷ 0 ∷ []) (0 ∷ [])) (3 ∷ [])
+    -- 8. Extents 2 3: strides 1 2 fold to extent 6, 1 3 don't fold.
     ∷ folds (lab 105 2 (pos 1) ∷ lab 106 3 (pos 2) ∷ []) (6 ∷ [])
     ∷ folds (lab 105 2 (pos 1) ∷ lab 106 3 (pos 3) ∷ []) (2 ∷ 3 ∷ [])
+    -- 9. Offsets 4 4 4 are even, step 0; 0 1 3 scattered.
     ∷ spaced (4 ∷ 4 ∷ 4 ∷ []) (even 0)
     ∷ spaced (0 ∷ 1 ∷ 3 ∷ []) scattered
+    -- 10. D extents 3 2, strides 2 3: refused 9, though no words meet; strides 1 3 accepted. Stride 0: 9 at extent 2, accepted at 1.
     ∷ answers (plain scalar scalar (matrix 3 (pos 2) 2 (pos 3))) (three (1 ∷ []) (1 ∷ []) (0 ∷ 0 ∷ 0 ∷ 0 ∷ 0 ∷ 0 ∷ 0 ∷ 0 ∷ [])) 9
     ∷ answers (plain scalar scalar (matrix 3 (pos 1) 2 (pos 3))) (three (1 ∷ []) (1 ∷ []) (0 ∷ 0 ∷ 0 ∷ 0 ∷ 0 ∷ 0 ∷ [])) 0
     ∷ answers (plain scalar scalar (vector 2 (pos 0) 0)) (three (1 ∷ []) (1 ∷ []) (0 ∷ [])) 9

@@ -1,7 +1,7 @@
 -- Folding: in each group, labels of extent 1 are dropped, and labels that step through the words together become one.
 -- Assumes nothing.
 use Prim.Native.Nat.{_*_}
-use mathlib.Core.Bool.{Bool, true, false, not, cond}
+use mathlib.Core.Bool.{Bool, true, false, not}
 use mathlib.Core.List.{List, [], _∷_}
 use lib.IntN.{ℤ, pos, negsuc, _*ℤ_}
 use lib.Dec.{eqb}
@@ -20,7 +20,7 @@ eqℤ (negsuc m) (negsuc n) = eqb m n
 abbrev pub follows : Label → Label → Operand → Bool
 follows p l o = eqℤ (l .stride o) (pos (p .extent) *ℤ p .stride o)
 
--- and so in every tensor
+-- in every tensor, the stride of l is p's extent × p's stride
 abbrev pub joins : Label → Label → Bool
 joins p l = every (follows p l) operands
 
@@ -42,9 +42,3 @@ counts l = not (eqb (l .extent) 1)
 
 abbrev pub fold : List Label → List Label
 fold g = joinAll (keep counts g)
-
--- a folded list with one label more: joined to the last one, or behind it
-abbrev pub addTo : List Label → Label → List Label
-addTo [] l = l ∷ []
-addTo (p ∷ []) l = cond (joins p l) (join p l ∷ []) (p ∷ l ∷ [])
-addTo (p ∷ q ∷ g) l = p ∷ addTo (q ∷ g) l

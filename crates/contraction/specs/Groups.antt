@@ -4,16 +4,12 @@ use Prim.Native.Nat.{ℕ, _+_, _*_, _/_, _%_}
 use mathlib.Core.Bool.{Bool, true, false}
 use mathlib.Core.List.{List, [], _∷_, map}
 use lib.IntN.{ℤ}
-use lib.ListN.{getD}
 use lib.Dec.{eqb}
 use Rattle.words.specs.Sums.{product}
-use Rattle.words.specs.Lists.{keep, member, tabulate}
-use Rattle.words.specs.Words.{signed}
+use Rattle.words.specs.Lists.{keep, member}
 use Rattle.layout.specs.Layout.{lettersOf}
 use Rattle.layout.specs.Labels.{strideOf, extentOf, labels}
-use Rattle.contraction.specs.declared.groups.Dim.{Dim}
-use Rattle.contraction.specs.declared.groups.Group.{Group as GroupCode}
-use Rattle.contraction.specs.Operands.{Operand, A, B, D, three, Shape, together}
+use Rattle.contraction.specs.Operands.{Operand, A, B, D, Shape, together}
 
 -- a letter with its extent, and its stride in each tensor: the sum of its strides there, 0 where it is absent
 pub record Label : Type 0 where
@@ -74,14 +70,3 @@ offset w (l ∷ g) n = n % l .extent * w l + offset w g (n / l .extent)
 -- the offset of a count of a group in a tensor: up, down or as address words
 abbrev pub offsetIn : (ℤ → ℕ) → Operand → List Label → ℕ → ℕ
 offsetIn part o = offset (λ l. part (l .stride o))
-
--- a label as code holds it, its strides as 64-bit address words
-abbrev pub asLabel : Dim → Label
-asLabel x = record { letter = x .letter; extent = x .extent; stride = three (signed 64 (x .a)) (signed 64 (x .b)) (signed 64 (x .d)) }
-
-abbrev pub noDim : Dim
-noDim = record { letter = 0; extent = 0; a = 0; b = 0; d = 0 }
-
--- the labels that the code's list of up to 24 holds
-unfoldable pub labelsIn : GroupCode → List Label
-labelsIn g = map asLabel (tabulate (g .count) (λ i. getD (g .dims) i noDim))

@@ -6,7 +6,9 @@ pub mod Questions
 pub mod Meaning
 pub mod Block
 pub mod Edges
+pub mod Held
 pub mod Ready
 pub mod Sets
 pub mod Offsets
+pub mod Lead
 pub mod Plan

@@ -1,9 +1,10 @@
--- What a contraction leaves in D: document 000 (TAPP), cases 1 to 4 and broadcast.
+-- What a contraction leaves in D: the meaning of TAPP, with repeated labels, labels of one tensor only, and broadcast.
 -- Assumes nothing.
-use Prim.Native.Nat.{ℕ, zero, suc, _+_, _*_}
+use Prim.Native.Nat.{ℕ, _+_, _*_}
 use mathlib.Core.List.{List}
-use lib.ListN.{getD, set, length}
+use lib.ListN.{getD, length}
 use Rattle.words.specs.Words.{word}
+use Rattle.words.specs.Loops.{overwrite}
 use Rattle.layout.specs.Layout.{address}
 use Rattle.contraction.specs.declared.contraction.Contraction.{Contraction}
 use Rattle.contraction.specs.Operands.{Operand, A, B, D, Shape, tensors, shape}
@@ -34,11 +35,6 @@ module _ (c : Contraction) (w : Slices) where
   -- alpha × (the sum, over every label that D lacks, of A's entry × B's entry) + beta × old word
   unfoldable pub value : (ℕ → ℕ) → ℕ
   value ρ = combined (c .alpha) (c .beta) (sumOver (group (shapeIn c) depth) (λ σ. entry A σ * entry B σ) ρ) (entry D ρ)
-
--- the words w with, for each count below n, its value v put at its place
-abbrev pub overwrite : ℕ → (ℕ → ℕ) → (ℕ → ℕ) → List ℕ → List ℕ
-overwrite zero place v w = w
-overwrite (suc n) place v w = set (overwrite n place v w) (place n) (v n)
 
 -- D's words afterwards: each output index's value at its address
 unfoldable pub result : Contraction → Slices → List ℕ

@@ -1,4 +1,4 @@
--- Offsets as the code holds them: an address word for each tensor.
+-- Offsets as the code holds them: an address word for each tensor. Inside contracts only.
 -- Assumes nothing.
 use Prim.Native.Nat.{ℕ}
 use mathlib.Core.Path.{_≡_}

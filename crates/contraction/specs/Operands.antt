@@ -4,12 +4,9 @@ use Prim.Native.Nat.{ℕ}
 use mathlib.Core.List.{List, [], _∷_, _++_}
 use Rattle.layout.specs.declared.layout.Axis.{Axis}
 use Rattle.layout.specs.declared.layout.Layout.{Layout}
-use Rattle.layout.specs.declared.axes.Axes.{Axes}
 use Rattle.layout.specs.Layout.{axes}
-use Rattle.layout.specs.Labels.{listed}
 use Rattle.contraction.specs.declared.contraction.Contraction.{Contraction}
 use Rattle.contraction.specs.declared.contraction.Lengths.{Lengths}
-use Rattle.contraction.specs.declared.operands.Operands.{Operands}
 
 -- A and B are read, D is read and written
 pub data Operand : Type 0 where
@@ -45,10 +42,3 @@ shape t o = axes (t o)
 -- the axes of all tensors in the order in which groups take their letters: D's, then A's, then B's
 unfoldable pub together : Shape → List Axis
 together s = s D ++ (s A ++ s B)
-
--- the code's list of axes for each tensor, and the axes that it holds
-abbrev pub axesIn : Operands → Operand → Axes
-axesIn x = three (x .a) (x .b) (x .d)
-
-abbrev pub shapeOf : Operands → Shape
-shapeOf x o = listed (axesIn x o)

@@ -1,4 +1,4 @@
--- The plan of a contraction: its four groups and D's labels, folded, and the tensors' bases.
+-- The plan of a contraction: its four groups and D's labels, folded, and the tensors' bases. Inside contracts only.
 -- Assumes nothing.
 use Prim.Native.Nat.{_≤_}
 use mathlib.Core.Path.{_≡_}
@@ -7,7 +7,8 @@ use Rattle.layout.specs.Limits.{axesLimit}
 use Rattle.contraction.specs.declared.plan.Plan.{Plan}
 use Rattle.contraction.specs.declared.groups.Group.{Group as GroupCode}
 use Rattle.contraction.specs.Operands.{Operand, shape}
-use Rattle.contraction.specs.Groups.{Group, group, outputs, labelsIn}
+use Rattle.contraction.specs.Groups.{Group, group, outputs}
+use Rattle.contraction.specs.Held.{labelsIn}
 use Rattle.contraction.specs.Sets.{groupsIn}
 use Rattle.contraction.specs.Fold.{fold}
 use Rattle.contraction.specs.Offsets.{wordsIn}

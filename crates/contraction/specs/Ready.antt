@@ -8,13 +8,13 @@ use Rattle.words.specs.Sums.{All}
 use Rattle.layout.specs.declared.layout.Layout.{Layout}
 use Rattle.layout.specs.Limits.{rankLimit, productLimit, axesLimit}
 use Rattle.layout.specs.Layout.{axes}
-use Rattle.layout.specs.Labels.{listed}
 use Rattle.layout.specs.declared.questions.Valid.{Valid}
-use Rattle.layout.specs.Checked.{Checked, ValidOf}
+use Rattle.layout.specs.Checked.{listed, Checked, ValidOf}
 use Rattle.contraction.specs.declared.questions.Answers.{Answers}
 use Rattle.contraction.specs.declared.contraction.Contraction.{Contraction}
 use Rattle.contraction.specs.declared.operands.Operands.{Operands}
-use Rattle.contraction.specs.Operands.{Operand, three, tensors, together, axesIn, shapeOf}
+use Rattle.contraction.specs.Operands.{Operand, three, tensors, together}
+use Rattle.contraction.specs.Held.{axesIn, shapeOf}
 use Rattle.contraction.specs.Groups.{Label, size}
 use Rattle.contraction.specs.Questions.{refusal, layoutQuestions}
 
@@ -49,7 +49,7 @@ pub record Ready (c : Contraction) (x : Operands) : Type 0 where
   pub gathered : Gathered x
 
 -- questions 1 to 9 passed
-pub record Accepted (t : Operand → Layout) (n : Operand → ℕ) : Type 0 where
+pub record LayoutsPass (t : Operand → Layout) (n : Operand → ℕ) : Type 0 where
   pub passed : refusal (layoutQuestions t n) ≡ 0
 
 -- a label whose strides times a 32-bit extent fit 64 bits

@@ -1,15 +1,16 @@
--- The four groups as sets of letters, and the code's groups of labels.
+-- The four groups as sets of letters, and the code's groups of labels. Inside contracts only.
 -- Assumes nothing.
 use Prim.Native.Nat.{ℕ, _≤_}
 use mathlib.Core.Path.{_≡_}
 use mathlib.Core.Bool.{not, _&&_, _||_}
 use Rattle.layout.specs.Limits.{axesLimit}
-use Rattle.layout.specs.Letters.{has}
+use Rattle.layout.specs.LetterSets.{has}
 use Rattle.contraction.specs.declared.groups.Sets.{Sets}
 use Rattle.contraction.specs.declared.groups.Groups.{Groups}
 use Rattle.contraction.specs.declared.groups.Group.{Group as GroupCode}
 use Rattle.contraction.specs.Operands.{Shape}
-use Rattle.contraction.specs.Groups.{Group, batch, row, column, depth, group, labelsIn}
+use Rattle.contraction.specs.Groups.{Group, batch, row, column, depth, group}
+use Rattle.contraction.specs.Held.{labelsIn}
 
 -- from the letters that A, B and D have, by and, or and complement
 pub record Split (a b d : ℕ) (r : Sets) : Type 0 where

@@ -19,6 +19,7 @@ pub struct Lengths {
 }
 
 impl Contraction {
+    // The contraction of three layouts as they were handed in: nothing is asked here, a call asks its questions of it.
     pub fn new(a: Layout, b: Layout, d: Layout, alpha: u32, beta: u32) -> Contraction
         ensures { λ r. ⌜ r ≡ contractionOf a b d alpha beta ⌝ }
     {

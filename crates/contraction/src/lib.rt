@@ -2,6 +2,7 @@
 pub mod contraction;
 pub mod fold;
 pub mod groups;
+pub mod lead;
 pub mod offsets;
 pub mod operands;
 pub mod plan;

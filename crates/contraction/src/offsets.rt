@@ -1,7 +1,8 @@
 ghost use Prim.Native.Nat.{_+_, _*_, _<_, _≤_};
 ghost use Rattle.words.specs.Words.{wordOf};
 ghost use Rattle.layout.specs.Limits.{axesLimit};
-ghost use Rattle.contraction.specs.Groups.{size, offsetIn, asLabel, labelsIn};
+ghost use Rattle.contraction.specs.Groups.{size, offsetIn};
+ghost use Rattle.contraction.specs.Held.{asLabel, labelsIn};
 ghost use Rattle.contraction.specs.Offsets.{wordsIn, Words};
 use super::groups::Dim;
 use super::groups::Group;

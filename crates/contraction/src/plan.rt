@@ -1,5 +1,5 @@
 ghost use Rattle.contraction.specs.Operands.{tensors, lengths};
-ghost use Rattle.contraction.specs.Ready.{Accepted};
+ghost use Rattle.contraction.specs.Ready.{LayoutsPass};
 ghost use Rattle.contraction.specs.Plan.{Planned};
 use super::contraction::Contraction;
 use super::contraction::Lengths;
@@ -20,7 +20,7 @@ pub struct Plan {
 
 // The plan of a contraction that questions 1 to 9 accept for slices of these lengths.
 pub fn plan_of(c: Contraction, n: Lengths) -> Plan
-    requires { ⌜ Accepted (tensors c) (lengths n) ⌝ }
+    requires { ⌜ LayoutsPass (tensors c) (lengths n) ⌝ }
     ensures { λ r. ⌜ Planned (tensors c) r ⌝ }
 {
     let x = Operands::of(c);

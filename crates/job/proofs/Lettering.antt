@@ -20,12 +20,13 @@ use Rattle.contraction.specs.declared.groups.Group.{Group}
 use Rattle.contraction.specs.declared.offsets.Offsets.{Offsets}
 use Rattle.contraction.specs.declared.plan.Plan.{Plan}
 use Rattle.contraction.specs.Operands.{Operand, A, D, three, tensors, lengths}
-use Rattle.contraction.specs.Groups.{batch, row, column, labelsIn, size, offsetIn}
+use Rattle.contraction.specs.Groups.{batch, row, column, size, offsetIn}
+use Rattle.contraction.specs.Held.{labelsIn}
 use Rattle.contraction.specs.Offsets.{wordsIn, Words}
 use Rattle.contraction.specs.Meaning.{Slices}
 use Rattle.contraction.specs.Questions.{refusal, layoutQuestions}
 use Rattle.contraction.specs.Plan.{Planned, planned}
-use Rattle.contraction.specs.Ready.{Accepted}
+use Rattle.contraction.specs.Ready.{LayoutsPass}
 use Rattle.contraction.proofs.Ready.{AllPassed}
 use Rattle.contraction.proofs.Refusal.{refusal-both}
 use Rattle.contraction.proofs.SliceLengths.{lengthsOf, slice-lengths}
@@ -34,7 +35,8 @@ use Rattle.tiles.specs.declared.grid.Grid.{Grid}
 use Rattle.tiles.specs.Cut.{Cut, total}
 use Rattle.tiles.specs.Grid.{cutIn}
 use Rattle.tiles.specs.Progress.{State, stateAt}
-use Rattle.tiles.specs.Setting.{Sound, render}
+use Rattle.tiles.specs.Setting.{render}
+use Rattle.tiles.proofs.Sound.{Sound}
 use Rattle.tiles.proofs.Closed.{render-shows}
 use Rattle.tiled.specs.Setting.{cutOf, setting}
 use Rattle.tiled.specs.Questions.{sizeQuestion, roomQuestion, doneQuestion, acceptQuestions, tileQuestions}
@@ -45,7 +47,7 @@ use Rattle.tiled.proofs.Answered.{same-questions, numbered, accepted}
 use Rattle.tiled.proofs.Reaches.{reaches-d, clear}
 use Rattle.tiled.proofs.Soundness.{setting-same, sound}
 use Rattle.job.specs.Letters.{letterOf, outside, letters, LettersRight}
-use Rattle.job.specs.Placed.{Accepted10, Placed, lettered, columnLetters}
+use Rattle.job.specs.Placed.{Accepted, Placed, lettered, columnLetters}
 
 -- ---- what the letters are
 
@@ -70,7 +72,7 @@ module _ (c : Contraction) (z : Sizes) (a b d e : List ℕ) where
   letters-same t same = λ x.
       render (setting-same c z (three a b d) (three a b e) refl refl x) (λ h i j was. letterOf (stateAt (cutOf c z) t h i j)) (tabulate (same x) (λ k. outside))
 
-  pub accepted-same : length d ≡ length e → Accepted10 c z (three a b d) → Accepted10 c z (three a b e)
+  pub accepted-same : length d ≡ length e → Accepted c z (three a b d) → Accepted c z (three a b e)
   accepted-same same ok = record { passed = same-questions c z a b d e (sym same) ∙ ok .passed }
 
 -- ---- a tile call that ran
@@ -90,7 +92,7 @@ module _ (c : Contraction) (z : Sizes) (w : Slices) (work : List ℕ) (t budget 
       go true zero f = (zero refl, f)
       go false zero f = let two : ran r full ≡ refused number t = ap (λ (x : TileCall). x .answer) f in let no : _≡_ {A = ℕ} 0 1 = cc in absurd (omega arith)
 
-  pub ran-accepted : Accepted10 c z w
+  pub ran-accepted : Accepted c z w
   unfolding tileQuestions
   ran-accepted =
       record { passed = refusal-both (acceptQuestions c z w) (roomQuestion z (length work) ++ doneQuestion (cutOf c z) t) (numbered c z w) (all-passed .0) .0 }
@@ -155,7 +157,7 @@ rows-lettered p G t h j from same = each-ext (G .M) (λ i b out. ap (λ (x : ℕ
 
 -- ---- all of them, of an accepted contraction
 
-module _ (c : Contraction) (z : Sizes) (a b d : List ℕ) (ok : Accepted10 c z (three a b d)) where
+module _ (c : Contraction) (z : Sizes) (a b d : List ℕ) (ok : Accepted c z (three a b d)) where
   ten : refusal (layoutQuestions (tensors c) (lengths (lengthsOf a b d)) ++ sizeQuestion z) ≡ 0
   unfolding acceptQuestions
   ten = ap (λ (n : Operand → ℕ). refusal (layoutQuestions (tensors c) n ++ sizeQuestion z)) (slice-lengths a b d) ∙ ok .passed
@@ -164,7 +166,7 @@ module _ (c : Contraction) (z : Sizes) (a b d : List ℕ) (ok : Accepted10 c z (
   nine = accepted c z (three a b d) (ok .passed) .0
 
   -- what `plan_of` asks
-  pub plan-asked : Accepted (tensors c) (lengths (lengthsOf a b d))
+  pub plan-asked : LayoutsPass (tensors c) (lengths (lengthsOf a b d))
   plan-asked = plan-asks c z a b d refl ten
 
   module _ (p : Plan) (q : Planned (tensors c) p) where

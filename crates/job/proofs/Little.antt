@@ -12,7 +12,7 @@ use lib.Seq.{ext-getD, getD-take, getD-drop, length-take-le}
 use borrow.Author.Tests.{leb-true, leb-false, le-leb, lt-leb}
 use Rattle.words.specs.Lists.{tabulate}
 use Rattle.words.proofs.Tabulate.{length-tabulate, getD-tabulate, map-tabulate}
-use Rattle.blocks.specs.Packed.{front}
+use Rattle.blocks.specs.Kernel.{front}
 use Rattle.blocks.proofs.Fronts.{front-none, front-set, front-all}
 use Rattle.job.specs.Bytes.{has, little, numbers}
 

@@ -1,7 +1,7 @@
 -- What a record's reading comes to: each question's answer, one reading after another, and that what was read is in the file and in its limits.
 -- Assumes nothing.
 use Prim.Native.Nat.{ℕ, _+_, _*_, _≤_}
-use mathlib.Core.Path.{_≡_, refl, sym, ap, _∙_}
+use mathlib.Core.Path.{_≡_, refl, sym, ap, subst, _∙_}
 use mathlib.Core.Bool.{Bool, true, false, not, cond}
 use mathlib.Core.Logic.{_⊎_, inl, inr, ⊎-elim}
 use mathlib.Core.List.{List}
@@ -13,8 +13,8 @@ use Rattle.layout.specs.Limits.{rankLimit, jobLimit}
 use Rattle.job.specs.declared.marks.Kind.{Kind}
 use Rattle.job.specs.Bytes.{has, little}
 use Rattle.job.specs.Marks.{kindOf, wordWidth}
-use Rattle.job.specs.Format.{Reading, then, kindAt}
-use Rattle.job.specs.Parts.{LayoutHeld, WordsHeld}
+use Rattle.job.specs.Format.{Reading, got, refused, then, kindAt}
+use Rattle.job.specs.Parts.{mapReading, LayoutHeld, WordsHeld, Held, ReadAs}
 
 -- a question b that the code answered by r
 module _ {r b : Bool} (e : r ≡ b) where
@@ -24,10 +24,21 @@ module _ {r b : Bool} (e : r ≡ b) where
   pub yes : not r ≡ false → b ≡ true
   yes t = sym e ∙ not-false r t
 
--- one reading after another: the first reads as `all`; the code has it in r, which is k, and goes on from k to y
-pub after : {R X Y : Type 0} (reads : R → Reading X) (rest : X → ℕ → Reading Y) {r k : R} {all : Reading X} {y : Reading Y}
-    → r ≡ k → reads r ≡ all → y ≡ then (reads k) rest → y ≡ then all rest
-after reads rest is e f = f ∙ ap (λ x. then x rest) (sym (ap reads is) ∙ e)
+-- One reading after another. The code has an answer that reads as `all`; in the branch at hand that answer is known.
+module _ {P X : Type 0} {of : List ℕ → P → X} {held : List ℕ → P → Type 0} {file : List ℕ} {read : Reading P} {all : Reading X} (e : ReadAs of held file read all) where
+  -- it got a part: that is held, and the next record begins in the file
+  pub got-held : {p : P} {next : ℕ} → read ≡ got p next → held file p × (next ≤ length file)
+  got-held is = subst (Held held file) is (e .sound)
+
+  -- the answer is k, and the code goes on from it
+  pub goes-on : {Q Y : Type 0} {of′ : List ℕ → Q → Y} {held′ : List ℕ → Q → Type 0} {k : Reading P} {read′ : Reading Q} (rest : X → ℕ → Reading Y)
+      → read ≡ k → ReadAs of′ held′ file read′ (then (mapReading (of file) k) rest) → ReadAs of′ held′ file read′ (then all rest)
+  goes-on rest is f = record { same = f .same ∙ ap (λ (x : Reading X). then x rest) (sym (ap (mapReading (of file)) is) ∙ e .same); sound = f .sound }
+
+  -- it refuses the file, and so does the code
+  pub stops : {Q Y : Type 0} {of′ : List ℕ → Q → Y} {held′ : List ℕ → Q → Type 0} {number : ℕ} (rest : X → ℕ → Reading Y)
+      → read ≡ refused number → ReadAs of′ held′ file (refused number) (then all rest)
+  stops rest is = goes-on rest is (record { same = refl; sound = tt })
 
 module _ (file : List ℕ) where
   -- a mark is there, and x is what f says of its kind
@@ -35,7 +46,7 @@ module _ (file : List ℕ) where
     pub there : has file at 2 ≡ true
     pub kind : x ≡ f (kindAt file at)
 
-  -- as the code finds it
+  -- the code found a mark: what it asked, one answer after another
   pub marked-as : (at : ℕ) {X : Type 0} (f : Kind → X) {two : Bool} {m : ℕ} {k : Kind} {x : X}
       → two ≡ has file at 2 → not two ≡ false → m ≡ little file 2 at → k ≡ kindOf m → x ≡ f k → Marked at f x
   marked-as at f et t em ek ex = record { there = yes et t; kind = ex ∙ ap f (ek ∙ ap kindOf em) }

@@ -30,9 +30,9 @@ use Rattle.job.specs.declared.reader.JobParts.{JobParts}
 use Rattle.job.specs.declared.reader.JobRead.{JobRead}
 use Rattle.job.specs.Bytes.{little, numbers}
 use Rattle.job.specs.Format.{layoutAt, readJob}
-use Rattle.job.specs.Parts.{layoutIn, wordsOf, jobIn, jobRead, LayoutHeld, WordsHeld}
+use Rattle.job.specs.Parts.{jobParts, mapReading, layoutIn, wordsOf, jobIn, LayoutHeld, WordsHeld}
 use Rattle.job.specs.Letters.{letters}
-use Rattle.job.specs.Placed.{Accepted10}
+use Rattle.job.specs.Placed.{Accepted}
 use Rattle.job.specs.Text.{refusedText, reportText}
 use Rattle.job.specs.Run.{answerText, callText, contractionIn, runText, readingText, jobText}
 use Rattle.job.specs.Written.{Begins}
@@ -105,7 +105,7 @@ layout-made file p held x e y s b made =
 pub put-as : (out : List ℕ) {r : ℕ} {out′ text text′ : List ℕ} → text ≡ text′ → Begins out text r out′ → Begins out text′ r out′
 put-as out e p = rw e at p
 
--- and it counts bytes at their start
+-- the same text in other words, and its end counts bytes at the start of `out`
 pub put-counted : (out : List ℕ) {r : ℕ} {out′ text : List ℕ} (text′ : List ℕ) → text ≡ text′ → length out′ ≡ length out → Begins out text r out′
     → Begins out text′ r out′ × Counts r out′
 put-counted out {r} {out′} text′ e same p =
@@ -113,7 +113,7 @@ put-counted out {r} {out′} text′ e same p =
     let room : r ≤ length out′ = omega (arith, q .0, written-room out text′ (sym (ap length (q .1)) ∙ same)) in
     (q, (room, sym (length-take-le r out′ room)))
 
--- of what a tile call answered, o, with D's words after it, d′
+-- the text of what a tile call answered, o, with D's words after it, d′
 module _ (c : Contraction) (z : Sizes) (a b d work : List ℕ) (done budget : ℕ) where
   answer-text : {x : TileAnswer} {d′ work′ : List ℕ} → gave x d′ work′ ≡ tileCall c z (three a b d) work done budget
       → answerText c z (three a b d) x d′ ≡ callText c z (three a b d) (tileCall c z (three a b d) work done budget)
@@ -123,7 +123,7 @@ module _ (c : Contraction) (z : Sizes) (a b d work : List ℕ) (done budget : �
   module _ {o : Outcome} {d′ work′ : List ℕ} (gives : gave (tileAnswer o) d′ work′ ≡ tileCall c z (three a b d) work done budget) where
     -- it ran: the letters are asked of D's words after it, which are as many as before
     module _ {t : ℕ} {full : Bool} (is : o ≡ Outcome.Ran t full) (kept : length d′ ≡ length d) where
-      pub ran-asks : Accepted10 c z (three a b d′)
+      pub ran-asks : Accepted c z (three a b d′)
       ran-asks = accepted-same c z a b d d′ (sym kept) (ran-accepted c z (three a b d) work done budget (rw is at gives))
 
       pub ran-text : {n : ℕ} {ls : List ℕ} → n ≡ total (cutOf c z) → ls ≡ letters c z (three a b d′) t
@@ -136,7 +136,7 @@ module _ (c : Contraction) (z : Sizes) (a b d work : List ℕ) (done budget : �
     unfolding answerText
     refused-text is = answer-text (rw is at gives)
 
--- of a call on equal words, with a work array of zeros. Over any count of them: as many as workRoom take antt too long to compare one by one
+-- the text of a call on equal words, with a work array of n zeros. Over any n: as many as workRoom take antt too long to compare one by one
 zeros : (n : ℕ) → replicate {A = ℕ} n 0 ≡ tabulate n (λ k. 0)
 zeros zero = refl
 zeros (suc n) = ap (λ (l : List ℕ). 0 ∷ l) (zeros n)
@@ -146,7 +146,7 @@ zeros-text : (n : ℕ) (z : Sizes) (done budget : ℕ) {c c′ : Contraction} {a
     ≡ callText c′ z (three a′ b′ d′) (tileCall c′ z (three a′ b′ d′) (tabulate n (λ k. 0)) done budget)
 zeros-text n z done budget ec ea eb ed = rw (ec, ea, eb, ed, zeros n)
 
--- of the call that a job asks for
+-- the text of the call that a job asks for
 pub job-text : (file : List ℕ) (p : JobParts) {c : Contraction} {a b d : List ℕ} → c ≡ contractionIn (jobIn file p)
     → a ≡ wordsOf file (p .a .words) → b ≡ wordsOf file (p .b .words) → d ≡ wordsOf file (p .d .words)
     → callText c (p .go .sizes) (three a b d) (tileCall c (p .go .sizes) (three a b d) (replicate workRoom 0) (p .go .done) (p .go .budget))
@@ -154,8 +154,8 @@ pub job-text : (file : List ℕ) (p : JobParts) {c : Contraction} {a b d : List 
 unfolding runText
 job-text file p ec ea eb ed = zeros-text workRoom (p .go .sizes) (p .go .done) (p .go .budget) ec ea eb ed
 
--- of what was read of a file
-module _ (file : List ℕ) {read : JobRead} (reads : jobRead file read ≡ readJob file) where
+-- the text of what was read of a file
+module _ (file : List ℕ) {read : JobRead} (reads : mapReading (jobIn file) (jobParts read) ≡ readJob file) where
   pub got-text : {p : JobParts} {end : Cursor} → read ≡ JobRead.Got p end → runText (jobIn file p) ≡ jobText file
   unfolding jobText readingText
   got-text is = rw (← reads, is)

@@ -23,7 +23,7 @@ pub data Reading (X : Type 0) : Type 0 where
 abbrev pub check : {X : Type 0} → Bool → ℕ → Reading X → Reading X
 check passes number rest = cond passes rest (refused number)
 
--- one after the other
+-- one reading after another: the rest reads on from the value and the place that the first got; a refusal ends both
 abbrev pub then : {X Y : Type 0} → Reading X → (X → ℕ → Reading Y) → Reading Y
 then (got value next) rest = rest value next
 then (refused number) rest = refused number
@@ -83,14 +83,15 @@ module _ (file : List ℕ) where
       (check (has file at (6 + widthAt t at * countAt at)) 21
       (got (numbers file (widthAt t at) (countAt at) (at + 6)) (at + (6 + widthAt t at * countAt at)))))))
 
-  -- both records of tensor t
+  -- tensor t, once its layout is read: its words come next
   unfoldable pub wordsAfter : ℕ → Layout → ℕ → Reading Tensor
   wordsAfter t layout at = then (wordsRecord t at) (λ words. got (tensor layout words))
 
+  -- tensor t: its layout, then its words
   unfoldable pub tensorRecords : ℕ → ℕ → Reading Tensor
   tensorRecords t at = then (layoutRecord t at) (wordsAfter t)
 
-  -- mark (2), alpha, beta (4 each), rows, cols, depth (2 each), tiles done, budget (4 each)
+  -- what `GO` holds: mark (2), alpha, beta (4 each), rows, cols, depth (2 each), tiles done, budget (4 each)
   unfoldable pub goAt : ℕ → Go
   goAt at =
       record {
@@ -101,6 +102,7 @@ module _ (file : List ℕ) where
         budget = little file 4 (at + 20);
       }
 
+  -- the record `GO`
   unfoldable pub goRecord : ℕ → Reading Go
   goRecord at =
       check (has file at 2) 21

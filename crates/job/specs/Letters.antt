@@ -14,12 +14,13 @@ use Rattle.tiles.specs.Progress.{State, old, part, final, stateAt}
 use Rattle.tiles.specs.Setting.{render}
 use Rattle.tiled.specs.Setting.{cutOf, addressAt, setting}
 
--- `o`, `p`, `f`; `-` for a word outside the layout
+-- the letter of a state: `o`, `p`, `f`
 abbrev pub letterOf : State → ℕ
 letterOf old = 111
 letterOf part = 112
 letterOf final = 102
 
+-- `-`, for a word outside the layout
 abbrev pub outside : ℕ
 outside = 45
 

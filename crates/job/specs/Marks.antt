@@ -32,6 +32,7 @@ bytesMark t = mark 89 t
 abbrev pub goMark : ℕ
 goMark = mark 71 79
 
+-- the kind that a mark tells
 abbrev pub kindOf : ℕ → Kind
 kindOf m =
     cond (eqb m (layoutMark letterA)) (Kind.Layout letterA)
@@ -45,7 +46,7 @@ kindOf m =
     (cond (eqb m (bytesMark letterD)) (Kind.Bytes letterD)
     (cond (eqb m goMark) Kind.Go Kind.Other)))))))))
 
--- is it the layout of tensor t?
+-- is a record of this kind the layout of tensor t?
 abbrev pub isLayout : ℕ → Kind → Bool
 isLayout t (Kind.Layout u) = eqb u t
 isLayout t (Kind.Words u) = false
@@ -53,7 +54,7 @@ isLayout t (Kind.Bytes u) = false
 isLayout t Kind.Go = false
 isLayout t Kind.Other = false
 
--- how many bytes a word of tensor t has in it; 0 where it does not hold that tensor's words
+-- how many bytes a word of tensor t has in a record of this kind; 0 where it does not hold that tensor's words
 abbrev pub wordWidth : ℕ → Kind → ℕ
 wordWidth t (Kind.Words u) = cond (eqb u t) 4 0
 wordWidth t (Kind.Bytes u) = cond (eqb u t) 1 0
@@ -61,6 +62,7 @@ wordWidth t (Kind.Layout u) = 0
 wordWidth t Kind.Go = 0
 wordWidth t Kind.Other = 0
 
+-- is a record of this kind `GO`?
 abbrev pub isGo : Kind → Bool
 isGo Kind.Go = true
 isGo (Kind.Layout u) = false

@@ -20,8 +20,29 @@ use Rattle.job.specs.declared.reader.JobRead.{JobRead}
 use Rattle.job.specs.Bytes.{numbers}
 use Rattle.job.specs.Format.{Reading, got, refused, Tensor, tensor, Job, jobOf, layoutAt}
 
+-- the code's answers as readings of the parts that they hold
+abbrev pub layoutPart : LayoutRead → Reading LayoutPart
+layoutPart (LayoutRead.Got p next) = got p (next .at)
+layoutPart (LayoutRead.Refused number) = refused number
+
+abbrev pub wordsPart : WordsRead → Reading WordsPart
+wordsPart (WordsRead.Got p next) = got p (next .at)
+wordsPart (WordsRead.Refused number) = refused number
+
+abbrev pub tensorParts : TensorRead → Reading TensorParts
+tensorParts (TensorRead.Got p next) = got p (next .at)
+tensorParts (TensorRead.Refused number) = refused number
+
+abbrev pub goPart : GoRead → Reading Go
+goPart (GoRead.Got go next) = got go (next .at)
+goPart (GoRead.Refused number) = refused number
+
+abbrev pub jobParts : JobRead → Reading JobParts
+jobParts (JobRead.Got p end) = got p (end .at)
+jobParts (JobRead.Refused number) = refused number
+
 module _ (file : List ℕ) where
-  -- the layout, the words, the tensor that stand there
+  -- what stands at a part of the file: a layout, words, a tensor, what `GO` holds, a job
   abbrev pub layoutIn : LayoutPart → Layout
   layoutIn p = layoutAt file (p .at) (p .rank)
 
@@ -31,31 +52,13 @@ module _ (file : List ℕ) where
   abbrev pub tensorIn : TensorParts → Tensor
   tensorIn p = tensor (layoutIn (p .layout)) (wordsOf (p .words))
 
+  abbrev pub goIn : Go → Go
+  goIn go = go
+
   abbrev pub jobIn : JobParts → Job
   jobIn p = jobOf (tensorIn (p .a)) (tensorIn (p .b)) (tensorIn (p .d)) (p .go)
 
-  -- what the code's answers read
-  abbrev pub layoutRead : LayoutRead → Reading Layout
-  layoutRead (LayoutRead.Got p next) = got (layoutIn p) (next .at)
-  layoutRead (LayoutRead.Refused number) = refused number
-
-  abbrev pub wordsRead : WordsRead → Reading (List ℕ)
-  wordsRead (WordsRead.Got p next) = got (wordsOf p) (next .at)
-  wordsRead (WordsRead.Refused number) = refused number
-
-  abbrev pub tensorRead : TensorRead → Reading Tensor
-  tensorRead (TensorRead.Got p next) = got (tensorIn p) (next .at)
-  tensorRead (TensorRead.Refused number) = refused number
-
-  abbrev pub goRead : GoRead → Reading Go
-  goRead (GoRead.Got go next) = got go (next .at)
-  goRead (GoRead.Refused number) = refused number
-
-  abbrev pub jobRead : JobRead → Reading Job
-  jobRead (JobRead.Got p end) = got (jobIn p) (end .at)
-  jobRead (JobRead.Refused number) = refused number
-
-  -- all of it is in the file, and in the limits
+  -- all of a part is in the file, and in the limits; `GO` was taken out of the file
   pub record LayoutHeld (p : LayoutPart) : Type 0 where
     pub few : p .rank ≤ rankLimit
     pub inside : p .at + (9 * p .rank + 4) ≤ length file
@@ -69,28 +72,25 @@ module _ (file : List ℕ) where
     pub layout : LayoutHeld (p .layout)
     pub words : WordsHeld (p .words)
 
+  abbrev pub GoHeld : Go → Type 0
+  GoHeld go = Unit {0}
+
   pub record JobHeld (p : JobParts) : Type 0 where
     pub a : TensorHeld (p .a)
     pub b : TensorHeld (p .b)
     pub d : TensorHeld (p .d)
 
-  -- where something was read, it is held, and what follows begins in the file
-  abbrev pub LayoutSound : LayoutRead → Type 0
-  LayoutSound (LayoutRead.Got p next) = LayoutHeld p × (next .at ≤ length file)
-  LayoutSound (LayoutRead.Refused number) = Unit {0}
+-- a reading with another value
+abbrev pub mapReading : {P X : Type 0} → (P → X) → Reading P → Reading X
+mapReading f (got p next) = got (f p) next
+mapReading f (refused number) = refused number
 
-  abbrev pub WordsSound : WordsRead → Type 0
-  WordsSound (WordsRead.Got p next) = WordsHeld p × (next .at ≤ length file)
-  WordsSound (WordsRead.Refused number) = Unit {0}
+-- where a part was read, it is held, and what follows begins in the file
+abbrev pub Held : {P : Type 0} → (List ℕ → P → Type 0) → List ℕ → Reading P → Type 0
+Held held file (got p next) = held file p × (next ≤ length file)
+Held held file (refused number) = Unit {0}
 
-  abbrev pub TensorSound : TensorRead → Type 0
-  TensorSound (TensorRead.Got p next) = TensorHeld p × (next .at ≤ length file)
-  TensorSound (TensorRead.Refused number) = Unit {0}
-
-  abbrev pub GoSound : GoRead → Type 0
-  GoSound (GoRead.Got go next) = next .at ≤ length file
-  GoSound (GoRead.Refused number) = Unit {0}
-
-  abbrev pub JobSound : JobRead → Type 0
-  JobSound (JobRead.Got p end) = JobHeld p
-  JobSound (JobRead.Refused number) = Unit {0}
+-- the code's reading of a part comes to `all`, by what stands there; and what the code may assume of it
+pub record ReadAs {P X : Type 0} (of : List ℕ → P → X) (held : List ℕ → P → Type 0) (file : List ℕ) (read : Reading P) (all : Reading X) : Type 0 where
+  pub same : mapReading (of file) read ≡ all
+  pub sound : Held held file read

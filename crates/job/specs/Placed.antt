@@ -15,8 +15,8 @@ use Rattle.tiled.specs.Questions.{acceptQuestions}
 use Rattle.tiled.specs.Planned.{placeD}
 use Rattle.job.specs.Letters.{letterOf}
 
--- questions 1 to 10 pass
-pub record Accepted10 (c : Contraction) (z : Sizes) (w : Slices) : Type 0 where
+-- questions 1 to 10 pass: the contraction is accepted
+pub record Accepted (c : Contraction) (z : Sizes) (w : Slices) : Type 0 where
   pub passed : refusal (acceptQuestions c z w) ≡ 0
 
 module _ (p : Plan) (G : Cut) where
@@ -28,6 +28,6 @@ module _ (p : Plan) (G : Cut) where
   abbrev pub lettered : ℕ → ℕ → ℕ → ℕ → List ℕ → List ℕ
   lettered t h i j = put (λ was. letterOf (stateAt G t h i j)) (placeD p h i j)
 
-  -- those of a batch count
+  -- the letters of all output indices of a batch count, each put at its place
   abbrev pub columnLetters : ℕ → ℕ → List ℕ → List ℕ
   columnLetters t h = each (G .N) (λ j. each (G .M) (λ i. lettered t h i j))

@@ -15,30 +15,32 @@ use Rattle.job.specs.Format.{Reading, Job, readJob}
 use Rattle.job.specs.Letters.{letters}
 use Rattle.job.specs.Text.{refusedText, reportText}
 
--- what a call answered, and D's words after it
+-- the text of what a call answered, with D's words after it
 unfoldable pub answerText : Contraction → Sizes → Slices → TileAnswer → List ℕ → List ℕ
 answerText c z w (ran t complete) words = reportText t (total (cutOf c z)) words (letters c z w t)
 answerText c z w (refused number t) words = refusedText number
 
+-- the text of a call
 unfoldable pub callText : Contraction → Sizes → Slices → TileCall → List ℕ
 callText c z w call = answerText c z w (call .answer) (call .words)
 
--- one tile call on a job
+-- a job's contraction, its three slices, and the text of the one tile call on them
 abbrev pub contractionIn : Job → Contraction
 contractionIn j = contractionOf (j .a .layout) (j .b .layout) (j .d .layout) (j .go .alpha) (j .go .beta)
 
-abbrev pub wordsIn : Job → Slices
-wordsIn j = three (j .a .words) (j .b .words) (j .d .words)
+abbrev pub slicesIn : Job → Slices
+slicesIn j = three (j .a .words) (j .b .words) (j .d .words)
 
 unfoldable pub runText : Job → List ℕ
 runText j =
-    callText (contractionIn j) (j .go .sizes) (wordsIn j)
-    (tileCall (contractionIn j) (j .go .sizes) (wordsIn j) (tabulate workRoom (λ k. 0)) (j .go .done) (j .go .budget))
+    callText (contractionIn j) (j .go .sizes) (slicesIn j)
+    (tileCall (contractionIn j) (j .go .sizes) (slicesIn j) (tabulate workRoom (λ k. 0)) (j .go .done) (j .go .budget))
 
--- a file that is refused while it is read, or the call that it asks for
+-- the text of a file that is refused while it is read, or of the call that it asks for
 unfoldable pub readingText : Reading Job → List ℕ
 readingText (Reading.refused number) = refusedText number
 readingText (Reading.got j end) = runText j
 
+-- the text that answers a file
 unfoldable pub jobText : List ℕ → List ℕ
 jobText file = readingText (readJob file)

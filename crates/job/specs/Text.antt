@@ -20,7 +20,7 @@ unfoldable pub digitsOf : ℕ → ℕ → List ℕ
 digitsOf zero n = digit n ∷ []
 digitsOf (suc k) n = cond (ltb n 10) (digit n ∷ []) (digitsOf k (n / 10) ++ digit (n % 10) ∷ [])
 
--- of any 64-bit number: it has at most 20
+-- the decimal digits of any 64-bit number: it has at most 20
 abbrev pub decimal : ℕ → List ℕ
 decimal n = digitsOf 19 n
 
@@ -36,22 +36,23 @@ tilesWord = 116 ∷ 105 ∷ 108 ∷ 101 ∷ 115 ∷ space ∷ []
 abbrev pub ofWord : List ℕ
 ofWord = space ∷ 111 ∷ 102 ∷ space ∷ []
 
--- `refused n`
+-- the line `refused n`
 unfoldable pub refusedText : ℕ → List ℕ
 refusedText n = refusedWord ++ decimal n ++ newline ∷ []
 
--- `tiles t of total`
+-- the line `tiles t of total`
 unfoldable pub tilesLine : ℕ → ℕ → List ℕ
 tilesLine t total = tilesWord ++ decimal t ++ ofWord ++ decimal total ++ newline ∷ []
 
--- a word and the letter of its state
+-- the line of a word: the word and the letter of its state
 unfoldable pub wordLine : ℕ → ℕ → List ℕ
 wordLine word letter = decimal word ++ space ∷ letter ∷ newline ∷ []
 
--- those of the first n words
+-- the lines of the first n words
 unfoldable pub wordLines : List ℕ → List ℕ → ℕ → List ℕ
 wordLines words letters zero = []
 wordLines words letters (suc n) = wordLines words letters n ++ wordLine (getD words n 0) (getD letters n 0)
 
+-- the answer of a call that ran: the tiles done, then a line for each word
 unfoldable pub reportText : ℕ → ℕ → List ℕ → List ℕ → List ℕ
 reportText t total words letters = tilesLine t total ++ wordLines words letters (length words)

@@ -9,7 +9,7 @@ ghost use Rattle.tiles.specs.Grid.{cutIn, stateOf};
 ghost use Rattle.tiled.specs.Setting.{cutOf};
 ghost use Rattle.tiled.specs.Planned.{GridOf};
 ghost use Rattle.job.specs.Letters.{letterOf, letters, outside};
-ghost use Rattle.job.specs.Placed.{Placed, lettered, columnLetters, Accepted10};
+ghost use Rattle.job.specs.Placed.{Placed, lettered, columnLetters, Accepted};
 use contraction::contraction::Contraction;
 use contraction::contraction::Lengths;
 use contraction::offsets::Offsets;
@@ -51,7 +51,7 @@ fn letter_rows(p: Plan, g: Grid, t: u64, h: u32, j: u32, out: &mut [u8])
     }
 }
 
-// Those of a batch count.
+// The output indices of a batch count: each one's letter at its place in D.
 fn letter_columns(p: Plan, g: Grid, t: u64, h: u32, out: &mut [u8])
     requires { ⌜ GridOf p g × Placed p (cutIn g) (length (now out)) × (h < cutIn g .H) ⌝ }
     ensures { λ _. ⌜ now (out .exit) ≡ columnLetters p (cutIn g) t h (now (out .entry)) ⌝ }
@@ -65,7 +65,7 @@ fn letter_columns(p: Plan, g: Grid, t: u64, h: u32, out: &mut [u8])
     }
 }
 
-// All of them.
+// All output indices: each one's letter at its place in D.
 fn letter_batches(p: Plan, g: Grid, t: u64, out: &mut [u8])
     requires { ⌜ GridOf p g × Placed p (cutIn g) (length (now out)) ⌝ }
     ensures { λ _. ⌜ now (out .exit) ≡ each (cutIn g .H) (columnLetters p (cutIn g) t) (now (out .entry)) ⌝ }
@@ -79,7 +79,7 @@ fn letter_batches(p: Plan, g: Grid, t: u64, out: &mut [u8])
     }
 }
 
-// Every word is outside the layout.
+// `-` for every word: as yet all are outside the layout.
 fn clear(out: &mut [u8])
     ensures { λ _. ⌜ now (out .exit) ≡ tabulate (length (now (out .entry))) (λ k. outside) ⌝ }
 {
@@ -100,7 +100,7 @@ pub fn letters_after(
     t: u64,
     out: &mut [u8],
 ) -> u64
-    requires { ⌜ Accepted10 c z (three (now a) (now b) (now d)) × (length (now out) ≡ length (now d)) ⌝ }
+    requires { ⌜ Accepted c z (three (now a) (now b) (now d)) × (length (now out) ≡ length (now d)) ⌝ }
     ensures { λ r. ⌜ (r ≡ total (cutOf c z)) × (now (out .exit) ≡ letters c z (three (now (a .entry)) (now (b .entry)) (now (d .entry))) t) ⌝ }
 {
     let n = Lengths {

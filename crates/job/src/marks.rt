@@ -10,26 +10,26 @@ pub enum Kind {
     Other,
 }
 
-// By the two-byte mark as a 16-bit number, its first letter in the low byte.
+// A record's kind by its two-byte mark, read as a 16-bit number: the first letter is the low byte.
 pub fn kind_of(mark: u16) -> Kind
     ensures { λ r. ⌜ r ≡ kindOf mark ⌝ }
 {
     match mark {
-        0x414c => Kind::Layout(b'A'),
-        0x424c => Kind::Layout(b'B'),
-        0x444c => Kind::Layout(b'D'),
-        0x4157 => Kind::Words(b'A'),
-        0x4257 => Kind::Words(b'B'),
-        0x4457 => Kind::Words(b'D'),
-        0x4159 => Kind::Bytes(b'A'),
-        0x4259 => Kind::Bytes(b'B'),
-        0x4459 => Kind::Bytes(b'D'),
-        0x4f47 => Kind::Go,
+        0x414c => Kind::Layout(b'A'), // LA
+        0x424c => Kind::Layout(b'B'), // LB
+        0x444c => Kind::Layout(b'D'), // LD
+        0x4157 => Kind::Words(b'A'), // WA
+        0x4257 => Kind::Words(b'B'), // WB
+        0x4457 => Kind::Words(b'D'), // WD
+        0x4159 => Kind::Bytes(b'A'), // YA
+        0x4259 => Kind::Bytes(b'B'), // YB
+        0x4459 => Kind::Bytes(b'D'), // YD
+        0x4f47 => Kind::Go, // GO
         _ => Kind::Other,
     }
 }
 
-// Is it the layout of the tensor with this letter?
+// Is a record of this kind the layout of the tensor with this letter?
 pub fn is_layout(kind: Kind, letter: u8) -> bool
     ensures { λ r. ⌜ r ≡ isLayout letter kind ⌝ }
 {
@@ -42,7 +42,7 @@ pub fn is_layout(kind: Kind, letter: u8) -> bool
     }
 }
 
-// How many bytes a word has where it holds the words of the tensor with this letter; 0 where it does not.
+// How many bytes a word has in a record of this kind, where it holds the words of the tensor with this letter; 0 where it does not.
 pub fn word_width(kind: Kind, letter: u8) -> usize
     ensures { λ r. ⌜ r ≡ wordWidth letter kind ⌝ }
 {
@@ -55,6 +55,7 @@ pub fn word_width(kind: Kind, letter: u8) -> usize
     }
 }
 
+// Is a record of this kind `GO`?
 pub fn is_go(kind: Kind) -> bool
     ensures { λ r. ⌜ r ≡ isGo kind ⌝ }
 {

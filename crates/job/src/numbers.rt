@@ -11,7 +11,7 @@ pub struct Cursor {
 }
 
 impl Cursor {
-    // Are n bytes there?
+    // Are n bytes there, from this place on?
     pub fn has(self, file: &[u8], n: usize) -> bool
         requires { ⌜ self .at ≤ length (now file) ⌝ }
         ensures { λ r. ⌜ r ≡ has (now (file .entry)) (self .at) n ⌝ }
@@ -30,7 +30,7 @@ pub fn two_bytes(file: &[u8], at: usize) -> u16
     low + 256 * high
 }
 
-// Of four bytes.
+// The number of four bytes, the least significant first.
 pub fn four_bytes(file: &[u8], at: usize) -> u32
     requires { ⌜ at + 4 ≤ length (now file) ⌝ }
     ensures { λ r. ⌜ r ≡ little (now (file .entry)) 4 at ⌝ }
@@ -40,13 +40,14 @@ pub fn four_bytes(file: &[u8], at: usize) -> u32
     low + 65536 * high
 }
 
+// A byte as a word.
 fn byte_word(b: u8) -> u32
     ensures { λ r. ⌜ r ≡ b ⌝ }
 {
     b as u32
 }
 
-// Numbers of a byte each.
+// Fills `out` with numbers of a byte each, from `at` on.
 pub fn read_bytes(file: &[u8], at: usize, out: &mut [u32])
     requires { ⌜ at + length (now out) ≤ length (now file) ⌝ }
     ensures { λ _. ⌜ now (out .exit) ≡ numbers (now (file .entry)) 1 (length (now (out .entry))) at ⌝ }
@@ -58,7 +59,7 @@ pub fn read_bytes(file: &[u8], at: usize, out: &mut [u32])
     }
 }
 
-// Numbers of four bytes each.
+// Fills `out` with numbers of four bytes each, from `at` on.
 pub fn read_words(file: &[u8], at: usize, out: &mut [u32])
     requires { ⌜ at + 4 * length (now out) ≤ length (now file) ⌝ }
     ensures { λ _. ⌜ now (out .exit) ≡ numbers (now (file .entry)) 4 (length (now (out .entry))) at ⌝ }
@@ -70,7 +71,7 @@ pub fn read_words(file: &[u8], at: usize, out: &mut [u32])
     }
 }
 
-// Signed numbers of four bytes each.
+// Fills `out` with signed numbers of four bytes each, from `at` on.
 pub fn read_signed(file: &[u8], at: usize, out: &mut [i32])
     requires { ⌜ at + 4 * length (now out) ≤ length (now file) ⌝ }
     ensures { λ _. ⌜ now (out .exit) ≡ map (signed 32) (numbers (now (file .entry)) 4 (length (now (out .entry))) at) ⌝ }

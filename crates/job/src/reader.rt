@@ -1,8 +1,7 @@
-ghost use mathlib.Core.Path.{_≡_};
 ghost use Prim.Native.Nat.{_≤_};
 ghost use lib.ListN.{length};
 ghost use Rattle.job.specs.Format.{fromGo, fromD, fromB, readJob};
-ghost use Rattle.job.specs.Parts.{tensorIn, jobRead, TensorHeld, JobSound};
+ghost use Rattle.job.specs.Parts.{jobParts, tensorIn, jobIn, TensorHeld, JobHeld, ReadAs};
 use super::numbers::Cursor;
 use super::records::Go;
 use super::records::GoRead;
@@ -28,7 +27,7 @@ pub enum JobRead {
 // `GO`, and after it the end.
 fn from_go(file: &[u8], a: TensorParts, b: TensorParts, d: TensorParts, from: Cursor) -> JobRead
     requires { ⌜ TensorHeld (now file) a × TensorHeld (now file) b × TensorHeld (now file) d × (from .at ≤ length (now file)) ⌝ }
-    ensures { λ r. ⌜ (jobRead (now (file .entry)) r ≡ fromGo (now (file .entry)) (tensorIn (now (file .entry)) a) (tensorIn (now (file .entry)) b) (tensorIn (now (file .entry)) d) (from .at)) × JobSound (now (file .entry)) r ⌝ }
+    ensures { λ r. ⌜ ReadAs jobIn JobHeld (now (file .entry)) (jobParts r) (fromGo (now (file .entry)) (tensorIn (now (file .entry)) a) (tensorIn (now (file .entry)) b) (tensorIn (now (file .entry)) d) (from .at)) ⌝ }
 {
     let read = go_record(file, from);
     match read {
@@ -49,7 +48,7 @@ fn from_go(file: &[u8], a: TensorParts, b: TensorParts, d: TensorParts, from: Cu
 // D's records, and what follows.
 fn from_d(file: &[u8], a: TensorParts, b: TensorParts, from: Cursor) -> JobRead
     requires { ⌜ TensorHeld (now file) a × TensorHeld (now file) b × (from .at ≤ length (now file)) ⌝ }
-    ensures { λ r. ⌜ (jobRead (now (file .entry)) r ≡ fromD (now (file .entry)) (tensorIn (now (file .entry)) a) (tensorIn (now (file .entry)) b) (from .at)) × JobSound (now (file .entry)) r ⌝ }
+    ensures { λ r. ⌜ ReadAs jobIn JobHeld (now (file .entry)) (jobParts r) (fromD (now (file .entry)) (tensorIn (now (file .entry)) a) (tensorIn (now (file .entry)) b) (from .at)) ⌝ }
 {
     let read = tensor_records(file, from, b'D');
     match read {
@@ -61,7 +60,7 @@ fn from_d(file: &[u8], a: TensorParts, b: TensorParts, from: Cursor) -> JobRead
 // B's records, and what follows.
 fn from_b(file: &[u8], a: TensorParts, from: Cursor) -> JobRead
     requires { ⌜ TensorHeld (now file) a × (from .at ≤ length (now file)) ⌝ }
-    ensures { λ r. ⌜ (jobRead (now (file .entry)) r ≡ fromB (now (file .entry)) (tensorIn (now (file .entry)) a) (from .at)) × JobSound (now (file .entry)) r ⌝ }
+    ensures { λ r. ⌜ ReadAs jobIn JobHeld (now (file .entry)) (jobParts r) (fromB (now (file .entry)) (tensorIn (now (file .entry)) a) (from .at)) ⌝ }
 {
     let read = tensor_records(file, from, b'B');
     match read {
@@ -72,7 +71,7 @@ fn from_b(file: &[u8], a: TensorParts, from: Cursor) -> JobRead
 
 // A job file, front to back.
 pub fn read_job(file: &[u8]) -> JobRead
-    ensures { λ r. ⌜ (jobRead (now (file .entry)) r ≡ readJob (now (file .entry))) × JobSound (now (file .entry)) r ⌝ }
+    ensures { λ r. ⌜ ReadAs jobIn JobHeld (now (file .entry)) (jobParts r) (readJob (now (file .entry))) ⌝ }
 {
     let read = tensor_records(file, Cursor { at: 0 }, b'A');
     match read {

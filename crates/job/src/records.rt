@@ -2,7 +2,7 @@ ghost use mathlib.Core.Path.{_≡_};
 ghost use Prim.Native.Nat.{_+_, _≤_};
 ghost use lib.ListN.{length};
 ghost use Rattle.job.specs.Format.{layoutRecord, wordsRecord, wordsAfter, tensorRecords, goAt, goRecord};
-ghost use Rattle.job.specs.Parts.{layoutIn, layoutRead, wordsRead, tensorRead, goRead, LayoutHeld, LayoutSound, WordsSound, TensorSound, GoSound};
+ghost use Rattle.job.specs.Parts.{layoutPart, wordsPart, tensorParts, goPart, layoutIn, wordsOf, tensorIn, goIn, LayoutHeld, WordsHeld, TensorHeld, GoHeld, ReadAs};
 use super::marks::is_go;
 use super::marks::is_layout;
 use super::marks::kind_of;
@@ -65,7 +65,7 @@ pub enum GoRead {
 // The layout of the tensor with this letter.
 fn layout_record(file: &[u8], from: Cursor, letter: u8) -> LayoutRead
     requires { ⌜ from .at ≤ length (now file) ⌝ }
-    ensures { λ r. ⌜ (layoutRead (now (file .entry)) r ≡ layoutRecord (now (file .entry)) letter (from .at)) × LayoutSound (now (file .entry)) r ⌝ }
+    ensures { λ r. ⌜ ReadAs layoutIn LayoutHeld (now (file .entry)) (layoutPart r) (layoutRecord (now (file .entry)) letter (from .at)) ⌝ }
 {
     let at = from.at;
     if !from.has(file, 2) {
@@ -94,7 +94,7 @@ fn layout_record(file: &[u8], from: Cursor, letter: u8) -> LayoutRead
 // The words of the tensor with this letter.
 fn words_record(file: &[u8], from: Cursor, letter: u8) -> WordsRead
     requires { ⌜ from .at ≤ length (now file) ⌝ }
-    ensures { λ r. ⌜ (wordsRead (now (file .entry)) r ≡ wordsRecord (now (file .entry)) letter (from .at)) × WordsSound (now (file .entry)) r ⌝ }
+    ensures { λ r. ⌜ ReadAs wordsOf WordsHeld (now (file .entry)) (wordsPart r) (wordsRecord (now (file .entry)) letter (from .at)) ⌝ }
 {
     let at = from.at;
     if !from.has(file, 2) {
@@ -125,9 +125,10 @@ fn words_record(file: &[u8], from: Cursor, letter: u8) -> WordsRead
     }
 }
 
+// The tensor of a layout that was read: its words come next.
 fn words_after(file: &[u8], layout: LayoutPart, from: Cursor, letter: u8) -> TensorRead
     requires { ⌜ LayoutHeld (now file) layout × (from .at ≤ length (now file)) ⌝ }
-    ensures { λ r. ⌜ (tensorRead (now (file .entry)) r ≡ wordsAfter (now (file .entry)) letter (layoutIn (now (file .entry)) layout) (from .at)) × TensorSound (now (file .entry)) r ⌝ }
+    ensures { λ r. ⌜ ReadAs tensorIn TensorHeld (now (file .entry)) (tensorParts r) (wordsAfter (now (file .entry)) letter (layoutIn (now (file .entry)) layout) (from .at)) ⌝ }
 {
     let read = words_record(file, from, letter);
     match read {
@@ -145,7 +146,7 @@ fn words_after(file: &[u8], layout: LayoutPart, from: Cursor, letter: u8) -> Ten
 // Both records of the tensor with this letter.
 pub fn tensor_records(file: &[u8], from: Cursor, letter: u8) -> TensorRead
     requires { ⌜ from .at ≤ length (now file) ⌝ }
-    ensures { λ r. ⌜ (tensorRead (now (file .entry)) r ≡ tensorRecords (now (file .entry)) letter (from .at)) × TensorSound (now (file .entry)) r ⌝ }
+    ensures { λ r. ⌜ ReadAs tensorIn TensorHeld (now (file .entry)) (tensorParts r) (tensorRecords (now (file .entry)) letter (from .at)) ⌝ }
 {
     let read = layout_record(file, from, letter);
     match read {
@@ -172,9 +173,10 @@ fn go_at(file: &[u8], at: usize) -> Go
     }
 }
 
+// The record `GO`.
 pub fn go_record(file: &[u8], from: Cursor) -> GoRead
     requires { ⌜ from .at ≤ length (now file) ⌝ }
-    ensures { λ r. ⌜ (goRead (now (file .entry)) r ≡ goRecord (now (file .entry)) (from .at)) × GoSound (now (file .entry)) r ⌝ }
+    ensures { λ r. ⌜ ReadAs goIn GoHeld (now (file .entry)) (goPart r) (goRecord (now (file .entry)) (from .at)) ⌝ }
 {
     let at = from.at;
     if !from.has(file, 2) {

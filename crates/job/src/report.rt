@@ -17,6 +17,7 @@ fn put_text(out: &mut [u8], at: usize, text: &[u8]) -> usize
     at + text.len()
 }
 
+// Puts the decimal digits of n.
 fn put_decimal(out: &mut [u8], at: usize, n: u64) -> usize
     requires { ⌜ at + length (decimal n) ≤ length (now out) ⌝ }
     ensures { λ r. ⌜ Put (now (out .entry)) at (decimal n) r (now (out .exit)) ⌝ }
@@ -26,7 +27,7 @@ fn put_decimal(out: &mut [u8], at: usize, n: u64) -> usize
     put_text(out, at, &digits[..k])
 }
 
-// `refused n`.
+// Puts the line `refused n` at the start.
 pub fn put_refused(out: &mut [u8], number: u32) -> usize
     requires { ⌜ 32 ≤ length (now out) ⌝ }
     ensures { λ r. ⌜ Begins (now (out .entry)) (refusedText number) r (now (out .exit)) ⌝ }
@@ -36,7 +37,7 @@ pub fn put_refused(out: &mut [u8], number: u32) -> usize
     put_text(out, at, b"\n")
 }
 
-// `tiles t of total`.
+// Puts the line `tiles t of total` at the start.
 fn put_tiles(out: &mut [u8], t: u64, total: u64) -> usize
     requires { ⌜ 64 ≤ length (now out) ⌝ }
     ensures { λ r. ⌜ Begins (now (out .entry)) (tilesLine t total) r (now (out .exit)) ⌝ }
@@ -48,7 +49,7 @@ fn put_tiles(out: &mut [u8], t: u64, total: u64) -> usize
     put_text(out, at, b"\n")
 }
 
-// A word and the letter of its state.
+// Puts a line: a word and the letter of its state.
 fn put_word(out: &mut [u8], at: usize, word: u32, letter: u8) -> usize
     requires { ⌜ at + 13 ≤ length (now out) ⌝ }
     ensures { λ r. ⌜ Put (now (out .entry)) at (wordLine word letter) r (now (out .exit)) ⌝ }
@@ -57,7 +58,7 @@ fn put_word(out: &mut [u8], at: usize, word: u32, letter: u8) -> usize
     put_text(out, at, &[b' ', letter, b'\n'])
 }
 
-// A line for each word.
+// Puts a line for each word.
 fn put_words(out: &mut [u8], at: usize, words: &[u32], letters: &[u8]) -> usize
     requires { ⌜ (length (now letters) ≡ length (now words)) × (at + 13 * length (now words) ≤ length (now out)) ⌝ }
     ensures { λ r. ⌜ Put (now (out .entry)) at (wordLines (now (words .entry)) (now (letters .entry)) (length (now (words .entry)))) r (now (out .exit)) ⌝ }

@@ -77,33 +77,33 @@ fn put_job(file: &[u8], job: JobParts, out: &mut [u8]) -> usize
     let c = contraction_in(file, job);
     let go = job.go;
     let z = go.sizes;
-    let ta = job.a;
-    let tb = job.b;
-    let td = job.d;
-    let pa = ta.words;
-    let pb = tb.words;
-    let pd = td.words;
-    let na = pa.count;
-    let nb = pb.count;
-    let nd = pd.count;
+    let tensor_a = job.a;
+    let tensor_b = job.b;
+    let tensor_d = job.d;
+    let part_a = tensor_a.words;
+    let part_b = tensor_b.words;
+    let part_d = tensor_d.words;
+    let count_a = part_a.count;
+    let count_b = part_b.count;
+    let count_d = part_d.count;
     let mut a = [0u32; Limits::JOB];
     let mut b = [0u32; Limits::JOB];
     let mut d = [0u32; Limits::JOB];
     let mut work = [0u32; Limits::WORK];
     let mut letters = [0u8; Limits::JOB];
-    words_in(file, pa, &mut a[..na]);
-    words_in(file, pb, &mut b[..nb]);
-    words_in(file, pd, &mut d[..nd]);
+    words_in(file, part_a, &mut a[..count_a]);
+    words_in(file, part_b, &mut b[..count_b]);
+    words_in(file, part_d, &mut d[..count_d]);
     put_call(
         c,
         z,
-        &a[..na],
-        &b[..nb],
-        &mut d[..nd],
+        &a[..count_a],
+        &b[..count_b],
+        &mut d[..count_d],
         &mut work,
         go.done,
         go.budget,
-        &mut letters[..nd],
+        &mut letters[..count_d],
         out,
     )
 }

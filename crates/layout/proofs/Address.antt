@@ -1,32 +1,19 @@
--- The address of an entry: the whole number base + Σ index × stride where that is 0 or more, and what wrapping sums of 64-bit words give
--- where it also lies within 64 bits; the base at the index 0, 0, ..; and the same at indices that agree at the letters.
+-- The address of an entry: the whole number base + Σ index × stride where that is 0 or more; the base at the index 0, 0, ..; and the same at
+-- indices that agree at the letters.
 -- Assumes nothing.
 use mathlib.Core.Path.{_≡_, refl, ap, _∙_}
 use mathlib.Core.List.{List, [], _∷_}
-use Prim.Native.Nat.{ℕ, _+_, _*_, _-_, _%_, _^_, _≤_, _<_}
-use native.Mathlib.Nat.{zero-mul, add-mul-mod-self-right, mod-eq-of-lt}
+use Prim.Native.Nat.{ℕ, _+_, _-_, _≤_}
+use native.Mathlib.Nat.{zero-mul}
 use native.Mathlib.Omega.{arith}
 use lib.IntN.{ℤ, pos, negsuc, _*ℤ_}
 use Rattle.words.specs.Sums.{All}
-use Rattle.words.specs.Words.{up, down, wordOf}
+use Rattle.words.specs.Words.{up, down}
 use Rattle.words.proofs.Sums.{total-ext, total-zero}
-use Rattle.words.proofs.Whole.{add-parts, up-mul, down-mul, sign, word-is}
+use Rattle.words.proofs.Whole.{add-parts, up-mul, down-mul}
 use Rattle.layout.specs.declared.layout.Axis.{Axis}
 use Rattle.layout.specs.declared.layout.Layout.{Layout}
-use Rattle.layout.specs.Layout.{axes, along, address, shift, signedAddress, wrappedAddress}
-
--- ---- as 64-bit words
-
-along-word : (xs : List Axis) (ρ : ℕ → ℕ) → All (λ a. down (a .stride) ≤ 2 ^ 64) xs
-    → along (wordOf 64) xs ρ + along down xs ρ ≡ along up xs ρ + along sign xs ρ * 2 ^ 64
-along-word [] ρ h = refl
-along-word (a ∷ xs) ρ h = omega (arith, along-word xs ρ (h .1), ap (λ (x : ℕ). ρ (a .letter) * x) (word-is (a .stride) (h .0)))
-
-pub wrapped-is-address : (l : Layout) (ρ : ℕ → ℕ) → All (λ a. down (a .stride) ≤ 2 ^ 64) (axes l)
-    → along down (axes l) ρ ≤ l .base + along up (axes l) ρ → address l ρ < 2 ^ 64 → wrappedAddress l ρ ≡ address l ρ
-unfolding address wrappedAddress
-wrapped-is-address l ρ small low high =
-    ap (λ (x : ℕ). x % 2 ^ 64) (omega (arith, along-word (axes l) ρ small)) ∙ add-mul-mod-self-right (address l ρ) (along sign (axes l) ρ) (2 ^ 64) ∙ mod-eq-of-lt high
+use Rattle.layout.specs.Layout.{axes, along, address, shift, signedAddress}
 
 -- ---- as a whole number
 

@@ -9,7 +9,7 @@ use borrow.Author.Tests.{eqb-true, eqb-false}
 use lib.Dec.{eqb}
 use lib.Bits.{bitAnd, bitOr, and-step, or-step, and-shr, or-shr}
 use lib.Pow.{shr-shr, shl-shr, pow-pos, pow-lt}
-use Rattle.layout.specs.Letters.{bit, has}
+use Rattle.layout.specs.LetterSets.{bit, has}
 
 bit-suc : (n j : ℕ) → bit n (suc j) ≡ bit (n / 2) j
 bit-suc n j = ap (λ (x : ℕ). n / 2 ^ x % 2) (omega arith) ∙ ap (λ (x : ℕ). x % 2) (sym (shr-shr n 1 j))

@@ -8,16 +8,17 @@ use Prim.Native.Nat.{ℕ, _+_, _*_, _^_, _≤_, _<_}
 use native.Mathlib.Omega.{arith}
 use lib.Dec.{T, eqb, leb, leb→le}
 use lib.IntN.{ℤ, pos, natAbs}
-use lib.ListN.{length, getD}
+use lib.ListN.{length}
 use Rattle.words.specs.Words.{up, down, wordOf, signed}
 use Rattle.words.proofs.Sums.{and-split}
-use Rattle.words.proofs.Tabulate.{length-tabulate}
+use Rattle.words.proofs.Tabulate.{length-firstOf}
 use Rattle.words.proofs.Whole.{size-add, size-parts, signed-word}
 use Rattle.layout.specs.declared.layout.Axis.{Axis}
 use Rattle.layout.specs.declared.axes.Axes.{Axes}
 use Rattle.layout.specs.Limits.{extentLimit, strideLimit}
 use Rattle.layout.specs.Layout.{noAxis}
-use Rattle.layout.specs.Labels.{strideOf, extentOf, listed}
+use Rattle.layout.specs.Labels.{strideOf, extentOf}
+use Rattle.layout.specs.Checked.{listed}
 use Rattle.layout.specs.Questions.{extentsValid, stridesValid}
 
 pub extents-bound : (xs : List Axis) → T (extentsValid xs) → (c : ℕ) → (1 ≤ extentOf c xs) × (extentOf c xs ≤ extentLimit)
@@ -48,7 +49,7 @@ strides-bound (a ∷ xs) t c =
 
 pub length-listed : (x : Axes) → length (listed x) ≡ x .count
 unfolding listed
-length-listed x = length-tabulate (x .count) (λ i. getD (x .items) i noAxis)
+length-listed x = length-firstOf (x .count) noAxis (x .items)
 
 -- how far a small number's word, read as signed, goes up and down adds up to the number's size
 pub word-size : (s : ℤ) → natAbs s < 2 ^ 63 → {w u d : ℕ} → w ≡ wordOf 64 s → u ≡ up (signed 64 w) → d ≡ down (signed 64 w) → u + d ≡ natAbs s

@@ -5,22 +5,23 @@ use mathlib.Core.Path.{_≡_, refl, sym, ap, subst, _∙_}
 use mathlib.Core.Bool.{Bool, true, false, cond, not, _&&_, _||_, true≢false}
 use mathlib.Core.List.{List, [], _∷_, _++_, append-nil, map-append}
 use Prim.Native.Nat.{ℕ, _+_, _%_, _≤_, _<_}
-use native.Mathlib.Numerals.{add-one}
 use native.Mathlib.Omega.{arith}
 use borrow.Author.Tests.{leb-true}
 use lib.Dec.{T, eqb, leb}
 use lib.ListN.{length, getD}
-use Rattle.words.specs.Lists.{tabulate, member, keep, cons-if, distinct}
+use Rattle.words.specs.Lists.{firstOf, member, keep, cons-if, distinct}
 use Rattle.words.specs.Sums.{every}
 use Rattle.words.proofs.Lists.{T-true, eqb-true, eqb-ne, eqb-self, eqb-flip, keep-append}
 use Rattle.words.proofs.Sums.{and-split, every-drop}
-use Rattle.words.proofs.Tabulate.{length-tabulate, tabulate-suc, from, from-next}
+use Rattle.words.proofs.Tabulate.{length-firstOf, firstOf-suc, from, from-next}
 use Rattle.layout.specs.declared.layout.Axis.{Axis}
 use Rattle.layout.specs.declared.axes.Axes.{Axes}
 use Rattle.layout.specs.declared.letters.Letters.{Letters}
 use Rattle.layout.specs.Layout.{noAxis, lettersOf}
-use Rattle.layout.specs.Labels.{labels, listed}
-use Rattle.layout.specs.Letters.{isLetter, spelled, Spells, added}
+use Rattle.layout.specs.Labels.{labels}
+use Rattle.layout.specs.Checked.{listed}
+use Rattle.layout.specs.Letters.{isLetter}
+use Rattle.layout.specs.LetterSets.{spelled, Spells, added}
 use Rattle.layout.specs.Questions.{lettersValid}
 
 -- a letter's code is from 65 to 122, so its bit tells it from all other letters
@@ -93,12 +94,13 @@ pub letter-listed : (x : Axes) → T (lettersValid (listed x)) → (i : ℕ) →
 unfolding lettersValid
 letter-listed x t i h = T-true _ (every-listed (λ a. isLetter (a .letter)) x t i h)
 
--- the labels of the first axes with one more behind them
-pub labels-next : (f : ℕ → Axis) (i : ℕ) → labels (tabulate (i + 1) f) ≡ added (f i .letter) (labels (tabulate i f))
+-- the labels of the first axes, with one more behind them
+pub labels-next : (xs : List Axis) (i : ℕ) → labels (firstOf (i + 1) noAxis xs) ≡ added (getD xs i noAxis .letter) (labels (firstOf i noAxis xs))
 unfolding labels
-labels-next f i =
-    ap (λ (n : ℕ). distinct (lettersOf (tabulate n f))) (add-one i) ∙ ap (λ xs. distinct (lettersOf xs)) (tabulate-suc i f)
-    ∙ ap distinct (map-append (λ a. a .letter) (tabulate i f) (f i ∷ [])) ∙ distinct-next (lettersOf (tabulate i f)) (f i .letter)
+labels-next xs i =
+    let ys = firstOf i noAxis xs in
+    let x = getD xs i noAxis in
+    ap (λ xs. distinct (lettersOf xs)) (firstOf-suc i noAxis xs) ∙ ap distinct (map-append (λ a. a .letter) ys (x ∷ [])) ∙ distinct-next (lettersOf ys) (x .letter)
 
 -- the code's list spells what it holds, as many letters as it counts
 pub spells-itself : (x : Letters) (cs : List ℕ) → Spells x cs → Spells x (spelled x)
@@ -106,4 +108,4 @@ spells-itself x cs s = subst (Spells x) (sym (s .spells)) s
 
 pub spells-count : (x : Letters) (cs : List ℕ) → Spells x cs → x .count ≡ length cs
 unfolding spelled
-spells-count x cs s = sym (length-tabulate (x .count) (λ i. getD (x .letters) i 0)) ∙ ap length (s .spells)
+spells-count x cs s = sym (length-firstOf (x .count) 0 (x .letters)) ∙ ap length (s .spells)

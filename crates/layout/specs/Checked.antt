@@ -1,15 +1,20 @@
--- What inside contracts say of axes: the answers to questions 3 to 5, and that they passed.
+-- The axes of the code's lists, the answers to questions 3 to 5, and that they passed. Inside contracts only.
 -- Assumes nothing.
 use Prim.Native.Nat.{_≤_}
 use mathlib.Core.Path.{_≡_}
 use mathlib.Core.List.{List}
 use lib.Dec.{T}
+use Rattle.words.specs.Lists.{firstOf}
 use Rattle.layout.specs.declared.layout.Axis.{Axis}
 use Rattle.layout.specs.declared.questions.Valid.{Valid}
 use Rattle.layout.specs.declared.axes.Axes.{Axes}
 use Rattle.layout.specs.Limits.{axesLimit}
-use Rattle.layout.specs.Labels.{listed}
+use Rattle.layout.specs.Layout.{noAxis}
 use Rattle.layout.specs.Questions.{lettersValid, extentsValid, stridesValid}
+
+-- the axes that the code's list of up to 24 holds
+unfoldable pub listed : Axes → List Axis
+listed x = firstOf (x .count) noAxis (x .items)
 
 -- what the code of questions 6 to 9 may assume: questions 1 and 3 to 5 passed
 pub record Checked (x : Axes) : Type 0 where

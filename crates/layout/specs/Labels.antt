@@ -5,11 +5,9 @@ use mathlib.Core.Bool.{cond}
 use mathlib.Core.List.{List, [], _∷_}
 use lib.IntN.{ℤ, pos, _+ℤ_}
 use lib.Dec.{eqb}
-use Rattle.words.specs.Lists.{tabulate, distinct}
-use lib.ListN.{getD}
+use Rattle.words.specs.Lists.{distinct}
 use Rattle.layout.specs.declared.layout.Axis.{Axis}
-use Rattle.layout.specs.declared.axes.Axes.{Axes}
-use Rattle.layout.specs.Layout.{noAxis, lettersOf}
+use Rattle.layout.specs.Layout.{lettersOf}
 
 -- the sum of the strides of a letter, 0 where it is absent
 abbrev pub strideOf : ℕ → List Axis → ℤ
@@ -24,7 +22,3 @@ extentOf c (a ∷ xs) = cond (eqb (a .letter) c) (a .extent) (extentOf c xs)
 -- the different letters of the axes, in order of first appearance
 unfoldable pub labels : List Axis → List ℕ
 labels xs = distinct (lettersOf xs)
-
--- the axes that the code's list of up to 24 holds
-unfoldable pub listed : Axes → List Axis
-listed x = tabulate (x .count) (λ i. getD (x .items) i noAxis)

@@ -5,8 +5,8 @@ use mathlib.Core.List.{List, [], _∷_, map}
 use lib.ListN.{getD, length}
 use lib.IntN.{ℤ, pos, _+ℤ_, _*ℤ_}
 use Rattle.words.specs.Sums.{total}
-use Rattle.words.specs.Lists.{tabulate}
-use Rattle.words.specs.Words.{word, up, down, wordOf}
+use Rattle.words.specs.Lists.{tabulate, firstOf}
+use Rattle.words.specs.Words.{up, down}
 use Rattle.layout.specs.Limits.{rankLimit}
 use Rattle.layout.specs.declared.layout.Axis.{Axis}
 use Rattle.layout.specs.declared.layout.Layout.{Layout}
@@ -32,7 +32,7 @@ layoutOf cs es ss base =
 
 -- a layout's axes, one for each letter
 unfoldable pub axes : Layout → List Axis
-axes l = tabulate (l .«letter_count») (λ i. getD (l .axes) i noAxis)
+axes l = firstOf (l .«letter_count») noAxis (l .axes)
 
 abbrev pub lettersOf : List Axis → List ℕ
 lettersOf xs = map (λ a. a .letter) xs
@@ -52,7 +52,3 @@ shift (a ∷ xs) ρ = pos (ρ (a .letter)) *ℤ a .stride +ℤ shift xs ρ
 
 unfoldable pub signedAddress : Layout → (ℕ → ℕ) → ℤ
 signedAddress l ρ = pos (l .base) +ℤ shift (axes l) ρ
-
--- the same by sums of 64-bit words that wrap
-unfoldable pub wrappedAddress : Layout → (ℕ → ℕ) → ℕ
-wrappedAddress l ρ = word 64 (l .base + along (wordOf 64) (axes l) ρ)

@@ -1,37 +1,9 @@
--- Letters, and sets of letters as the bits of a 64-bit word. A letter's bit is its ASCII code modulo 64: `A` to `Z` have 1 to 26, `a` to `z` 33 to 58.
+-- Letters.
 -- Assumes nothing.
-use Prim.Native.Nat.{ℕ, _/_, _%_, _^_, _≤_}
-use mathlib.Core.Path.{_≡_}
-use mathlib.Core.Bool.{Bool, true, cond, _&&_, _||_}
-use mathlib.Core.List.{List, [], _∷_, _++_}
-use lib.Dec.{eqb, leb}
-use lib.ListN.{getD}
-use Rattle.words.specs.Lists.{tabulate, member}
-use Rattle.layout.specs.Limits.{axesLimit}
-use Rattle.layout.specs.declared.letters.Letters.{Letters}
+use Prim.Native.Nat.{ℕ}
+use mathlib.Core.Bool.{Bool, _&&_, _||_}
+use lib.Dec.{leb}
 
 -- A to Z or a to z
 abbrev pub isLetter : ℕ → Bool
 isLetter c = (leb 65 c && leb c 90) || (leb 97 c && leb c 122)
-
--- the bit of 2 ^ k in a word
-abbrev pub bit : ℕ → ℕ → ℕ
-bit s k = s / 2 ^ k % 2
-
--- does the set have the letter?
-abbrev pub has : ℕ → ℕ → Bool
-has s c = eqb (bit s (c % 64)) 1
-
--- the letters that the code's list of up to 24 holds
-unfoldable pub spelled : Letters → List ℕ
-spelled x = tabulate (x .count) (λ i. getD (x .letters) i 0)
-
--- the code's list holds the letters cs, and its set has just these
-pub record Spells (x : Letters) (cs : List ℕ) : Type 0 where
-  pub spells : spelled x ≡ cs
-  pub sets : (c : ℕ) → isLetter c ≡ true → has (x .set) c ≡ member c cs
-  pub few : x .count ≤ axesLimit
-
--- letters with one more behind them, unless they have it
-abbrev pub added : ℕ → List ℕ → List ℕ
-added c cs = cond (member c cs) cs (cs ++ c ∷ [])

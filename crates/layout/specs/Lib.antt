@@ -5,3 +5,4 @@ pub mod Letters
 pub mod Questions
 pub mod Bounds
 pub mod Checked
+pub mod LetterSets

@@ -1,4 +1,4 @@
--- The limits of document 01, by name. The code's are the associated constants of `Limits`; `Limits::all` is proved to hold these.
+-- The limits of the rules, by name. The code's are the associated constants of `Limits`; `Limits::all` is proved to hold these.
 -- Assumes nothing.
 use Prim.Native.Nat.{ℕ, _*_}
 use Rattle.layout.specs.declared.limits.Limits.{Limits}
@@ -21,7 +21,7 @@ sliceLimit = 16777216
 abbrev pub productLimit : ℕ  -- the product of the extents of all different labels
 productLimit = 1073741824
 
-abbrev pub axesLimit : ℕ  -- the letters of three tensors: no limit of document 01's, but the room in the code's lists
+abbrev pub axesLimit : ℕ  -- the letters of three tensors: no limit of the rules, but the room in the code's lists
 axesLimit = 3 * rankLimit
 
 abbrev pub rowsLimit : ℕ  -- rows of a tile

@@ -3,7 +3,7 @@ ghost use mathlib.Core.List.{[], _++_};
 ghost use Prim.Native.Nat.{_+_, _≤_};
 ghost use Rattle.layout.specs.Limits.{rankLimit, axesLimit};
 ghost use Rattle.layout.specs.Layout.{axes};
-ghost use Rattle.layout.specs.Labels.{listed};
+ghost use Rattle.layout.specs.Checked.{listed};
 use super::layout::Axis;
 use super::layout::Layout;
 use super::limits::Limits;

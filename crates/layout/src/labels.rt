@@ -3,8 +3,8 @@ ghost use mathlib.Core.Bool.{cond};
 ghost use Prim.Native.Nat.{_-_, _≤_};
 ghost use Rattle.words.specs.Words.{wordOf};
 ghost use Rattle.layout.specs.Limits.{axesLimit};
-ghost use Rattle.layout.specs.Labels.{listed, strideOf, extentOf};
-ghost use Rattle.layout.specs.Checked.{Checked};
+ghost use Rattle.layout.specs.Labels.{strideOf, extentOf};
+ghost use Rattle.layout.specs.Checked.{listed, Checked};
 use super::axes::Axes;
 
 // The extent of a letter where it first occurs, 1 where it is absent. From the last axis to the first.

@@ -64,6 +64,8 @@ fn first_axes(letters: &[u8], extents: &[u32], strides: &[i32]) -> [Axis; Limits
 }
 
 impl Layout {
+    // The layout as it is handed in. Of a ninth letter, extent or stride only the count is kept: question 1 refuses nine letters, question 2
+    // counts that differ. What is missing of the first 8 axes is 0.
     pub fn new(letters: &[u8], extents: &[u32], strides: &[i32], base: u32) -> Layout
         ensures { λ r. ⌜ r ≡ layoutOf (now (letters .entry)) (now (extents .entry)) (now (strides .entry)) base ⌝ }
     {

@@ -4,9 +4,10 @@ ghost use mathlib.Core.List.{[]};
 ghost use Prim.Native.Nat.{ℕ, _+_, _%_, _<_, _≤_};
 ghost use lib.Dec.{eqb};
 ghost use Rattle.layout.specs.Limits.{axesLimit};
-ghost use Rattle.layout.specs.Letters.{isLetter, has, spelled, Spells, added};
-ghost use Rattle.layout.specs.Labels.{listed, labels};
-ghost use Rattle.layout.specs.Checked.{Checked};
+ghost use Rattle.layout.specs.Letters.{isLetter};
+ghost use Rattle.layout.specs.LetterSets.{has, spelled, Spells, added};
+ghost use Rattle.layout.specs.Labels.{labels};
+ghost use Rattle.layout.specs.Checked.{listed, Checked};
 use super::axes::Axes;
 use super::limits::Limits;
 

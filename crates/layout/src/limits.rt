@@ -1,7 +1,7 @@
 ghost use mathlib.Core.Path.{_≡_};
 ghost use Rattle.layout.specs.Limits.{limits};
 
-// The limits of document 01, one set of named values for both engines and the program.
+// The limits of the rules, one set of named values for both engines and the program.
 pub struct Limits {
     pub rank: usize,
     pub extent: u32,

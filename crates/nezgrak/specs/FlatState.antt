@@ -2,19 +2,19 @@
 -- Assumes nothing.
 use Prim.Native.Nat.{ℕ}
 use Rattle.tiles.specs.Progress.{old, part, final}
-use Rattle.tiled.specs.Call.{StateAnswer, is, unasked}
+use Rattle.tiled.specs.Call.{StateAnswer, is, stateRefused}
 
 -- the number that is returned: 0 where there is a state
 abbrev pub stateNumber : StateAnswer → ℕ
 stateNumber (is s) = 0
-stateNumber (unasked number) = number
+stateNumber (stateRefused number) = number
 
 -- the state as a number, which stays as it was where the question was refused
 abbrev pub stateAfter : StateAnswer → ℕ → ℕ
 stateAfter (is old) before = 0
 stateAfter (is part) before = 1
 stateAfter (is final) before = 2
-stateAfter (unasked number) before = before
+stateAfter (stateRefused number) before = before
 
 -- what a question returns, and the number that it sets
 pub record FlatState : Type 0 where

@@ -3,7 +3,7 @@ ghost use Rattle.layout.specs.Layout.{layoutOf};
 ghost use Rattle.contraction.specs.Operands.{three, contractionOf};
 ghost use Rattle.plain.specs.Call.{answerOf, plainCall};
 ghost use Rattle.nezgrak.specs.Flat.{number, returned, flat};
-use super::made::contraction_of;
+use super::contraction_of::contraction_of;
 use plain::call::Outcome;
 use plain::call::contract;
 

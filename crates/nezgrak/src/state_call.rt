@@ -4,7 +4,7 @@ ghost use Rattle.contraction.specs.Operands.{three, contractionOf};
 ghost use Rattle.tiled.specs.Call.{stateAnswer, stateCall};
 ghost use Rattle.nezgrak.specs.Flat.{sizesOf};
 ghost use Rattle.nezgrak.specs.FlatState.{stateNumber, stateAfter, stateReturned, flatState};
-use super::made::contraction_of;
+use super::contraction_of::contraction_of;
 use tiled::call::Found;
 use tiled::call::state as state_of;
 use tiles::grid::Sizes;

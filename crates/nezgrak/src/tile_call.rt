@@ -4,7 +4,7 @@ ghost use Rattle.contraction.specs.Operands.{three, contractionOf};
 ghost use Rattle.tiled.specs.Call.{tileAnswer, doneIn, tileCall};
 ghost use Rattle.nezgrak.specs.Flat.{sizesOf};
 ghost use Rattle.nezgrak.specs.FlatTiles.{tileNumber, saidComplete, tilesReturned, flatTiles};
-use super::made::contraction_of;
+use super::contraction_of::contraction_of;
 use tiled::call::Outcome;
 use tiled::call::run;
 use tiles::grid::Sizes;

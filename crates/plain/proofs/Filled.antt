@@ -7,18 +7,19 @@ use Prim.Native.Nat.{ℕ, zero, suc, _≤_, _<_}
 use native.Mathlib.Omega.{arith}
 use lib.ListN.{length, getD, set}
 use Rattle.words.specs.Sums.{sumTo}
-use Rattle.words.specs.Loops.{each, put}
+use Rattle.words.specs.Loops.{each, put, overwrite}
 use Rattle.words.proofs.Sums.{sumTo-ext}
+use Rattle.words.proofs.Store.{puts-other}
 use Rattle.layout.specs.Layout.{address}
 use Rattle.contraction.specs.declared.contraction.Contraction.{Contraction}
 use Rattle.contraction.specs.Operands.{Operand, A, B, D, tensors}
 use Rattle.contraction.specs.Groups.{Label, depth, group, outputs, size}
 use Rattle.contraction.specs.Fold.{fold}
 use Rattle.contraction.specs.Index.{at, outIndex}
-use Rattle.contraction.specs.Meaning.{Slices, shapeIn, combined, entry, value, overwrite, result}
+use Rattle.contraction.specs.Meaning.{Slices, shapeIn, combined, entry, value, result}
 use Rattle.contraction.proofs.Ready.{AllPassed}
 use Rattle.contraction.proofs.FoldKeeps.{fold-size}
-use Rattle.contraction.proofs.Result.{overwrite-other, outputs-apart, term, value-counts}
+use Rattle.contraction.proofs.Result.{outputs-apart, term, value-counts}
 use Rattle.contraction.proofs.Reached.{out-inside, reached-out, term-inside, reached-term}
 use Rattle.plain.specs.Walk.{reached, dot, sumFrom, filled, Readable, Clear}
 
@@ -84,7 +85,7 @@ module _ (c : Contraction) (w : Slices) (p : AllPassed (tensors c) (λ o. length
   -- a place that is still to come holds its old word
   unfilled : (m : ℕ) → m < size (outputs (shapeIn c)) → getD (overwrite m place put-value (w D)) (place m) 0 ≡ entry c w D (outIndex (shapeIn c) m)
   unfolding place put-value entry
-  unfilled m h = overwrite-other place put-value (w D) m (place m) other
+  unfilled m h = puts-other place (λ k was. put-value k) m (place m) (w D) other
     where
       other : (k : ℕ) → k < m → place k ≢ place m
       other k i e = let q : k ≡ m = outputs-apart (tensors c) (length (w D)) (rw (p .agree) tt) (rw (p .within D) tt) (rw (p .distinct) tt) k m (omega arith) h e in omega (arith, q)

@@ -1,30 +1,19 @@
 -- A group that is walked in runs of its first label: count v of run m is the group's count len × m + v, and its address words are steps from the run's first.
 -- Assumes nothing.
 use mathlib.Core.Path.{_≡_, refl}
-use mathlib.Core.List.{List, [], _∷_}
+use mathlib.Core.List.{List}
 use Prim.Native.Nat.{ℕ, _+_, _*_, _<_}
-use native.Mathlib.Nat.{mul-le-mul-left, mul-mod-right, mul-div-right}
+use native.Mathlib.Nat.{mul-le-mul-left}
 use native.Mathlib.Omega.{arith}
 use Rattle.words.specs.Words.{word, wordOf}
 use Rattle.contraction.specs.Operands.{Operand}
-use Rattle.contraction.specs.Groups.{Label, size, offset, offsetIn}
+use Rattle.contraction.specs.Groups.{Label, size, offsetIn}
 use Rattle.contraction.specs.declared.offsets.Offsets.{Offsets}
 use Rattle.contraction.specs.Offsets.{wordsIn, Words}
-use Rattle.contraction.specs.Ready.{Foldable}
-use Rattle.contraction.proofs.Digits.{lowest, rest}
+use Rattle.contraction.specs.Lead.{lead}
+use Rattle.contraction.proofs.Runs.{lead-long, offset-run}
 use Rattle.plain.specs.declared.walk.Walk.{Walk}
-use Rattle.plain.specs.Walk.{stepped, reached, lead, Walks}
-
-lead-long : (g : List Label) → Foldable g → 0 < lead g .extent
-lead-long [] f = omega arith
-lead-long (l ∷ g) f = f .extents .0
-
--- the offset of a count is that of its run's first count and v times the lead's weight
-offset-run : (f : Label → ℕ) (g : List Label) (e m v : ℕ) → f (lead []) ≡ 0 → e ≡ lead g .extent → v < e → offset f g (e * m + v) ≡ offset f g (e * m) + v * f (lead g)
-offset-run f [] e m v z q h = rw z (omega arith)
-offset-run f (l ∷ g) e m v z q h =
-    let p : 0 < e = omega arith in
-    rw (← q, lowest e m h, rest e m h, mul-mod-right e m, mul-div-right m p) (omega arith)
+use Rattle.plain.specs.Walk.{stepped, reached, Walks}
 
 -- a step from a word that was reduced twice
 step-word : (x y z : ℕ) → word 64 (word 64 (x + word 64 y) + z) ≡ word 64 (x + (y + z))

@@ -2,19 +2,20 @@
 -- Assumes nothing.
 use Prim.Native.Nat.{ℕ, _+_, _*_, _<_, _≤_}
 use mathlib.Core.Path.{_≡_}
-use mathlib.Core.List.{List, [], _∷_}
-use lib.IntN.{pos}
+use mathlib.Core.List.{List}
 use lib.ListN.{length, getD}
 use Rattle.words.specs.Sums.{sumTo}
 use Rattle.words.specs.Words.{word, wordOf}
-use Rattle.words.specs.Loops.{put}
+use Rattle.words.specs.Loops.{put, Within}
 use Rattle.layout.specs.Limits.{axesLimit}
 use Rattle.contraction.specs.Operands.{Operand, A, B, D}
-use Rattle.contraction.specs.Groups.{Label, size, offsetIn, labelsIn}
+use Rattle.contraction.specs.Groups.{Label, size, offsetIn}
+use Rattle.contraction.specs.Held.{labelsIn}
 use Rattle.contraction.specs.declared.offsets.Offsets.{Offsets}
 use Rattle.contraction.specs.Meaning.{combined}
 use Rattle.contraction.specs.Offsets.{wordsIn}
 use Rattle.contraction.specs.Ready.{Foldable}
+use Rattle.contraction.specs.Lead.{lead}
 use Rattle.plain.specs.declared.walk.Walk.{Walk}
 
 -- the address word v steps from x
@@ -25,10 +26,11 @@ stepped x s v = word 64 (x + v * s)
 abbrev pub reached : Operand → ℕ → List Label → ℕ → ℕ
 reached o x g n = word 64 (x + offsetIn (wordOf 64) o g n)
 
--- and so for each tensor: v steps from where each stands, and at a count of a group
+-- the address word in each tensor, v steps from where it stands
 abbrev pub steps : Offsets → Offsets → ℕ → Operand → ℕ
 steps from step v o = stepped (wordsIn from o) (wordsIn step o) v
 
+-- the address word in each tensor at a count of a group
 abbrev pub places : Offsets → List Label → ℕ → Operand → ℕ
 places base g n o = reached o (wordsIn base o) g n
 
@@ -46,24 +48,15 @@ filled alpha beta g a b at = put (combined alpha beta (sumFrom g a b at)) (at D)
 
 -- ---- what the loops may assume
 
--- each place of the counts below n is one of a list of that length
-pub record Within (n : ℕ) (place : ℕ → ℕ) (len : ℕ) : Type 0 where
-  pub each : (v : ℕ) → v < n → place v < len
-
 -- from an address word of each tensor, all that the sum over the depth group g reads is inside
 pub record Readable (g : List Label) (a b : List ℕ) (at : Operand → ℕ) : Type 0 where
   pub inA : Within (size g) (reached A (at A) g) (length a)
   pub inB : Within (size g) (reached B (at B) g) (length b)
 
--- and so from those of each count below n, with the place that is written in a list of that length
+-- from the address words of each count below n, all that is read is inside, and the place that is written is one of a list of that length
 pub record Clear (n : ℕ) (at : ℕ → Operand → ℕ) (g : List Label) (a b : List ℕ) (len : ℕ) : Type 0 where
   pub reads : (v : ℕ) → v < n → Readable g a b (at v)
   pub writes : Within n (λ v. at v D) len
-
--- the first label of a group, or one of extent 1 where there is none
-abbrev pub lead : List Label → Label
-lead [] = record { letter = 0; extent = 1; stride = λ o. pos 0 }
-lead (l ∷ g) = l
 
 -- the labels that a walk goes over
 abbrev pub over : Walk → List Label

@@ -1,8 +1,9 @@
 ghost use mathlib.Core.Path.{_≡_};
 ghost use lib.ListN.{length};
 ghost use Rattle.words.specs.Words.{word};
+ghost use Rattle.words.specs.Loops.{Within};
 ghost use Rattle.contraction.specs.Offsets.{wordsIn};
-ghost use Rattle.plain.specs.Walk.{stepped, dot, sumFrom, over, Within, Readable, Walks};
+ghost use Rattle.plain.specs.Walk.{stepped, dot, sumFrom, over, Readable, Walks};
 use super::walk::Walk;
 use contraction::offsets::Offsets;
 

@@ -9,7 +9,7 @@ use Rattle.contraction.specs.declared.plan.Plan.{Plan}
 use Rattle.contraction.specs.Operands.{three, tensors, lengths}
 use Rattle.contraction.specs.Questions.{refusal, eachTensor, allLabels, entries, layoutQuestions}
 use Rattle.contraction.specs.Plan.{Planned}
-use Rattle.contraction.specs.Ready.{Accepted}
+use Rattle.contraction.specs.Ready.{LayoutsPass}
 use Rattle.contraction.proofs.Refusal.{refusal-both}
 use Rattle.contraction.proofs.SliceLengths.{lengthsOf}
 use Rattle.tiles.specs.declared.grid.Sizes.{Sizes}
@@ -21,13 +21,13 @@ use Rattle.tiled.specs.Planned.{planCut, GridOf, PlanFits}
 use Rattle.tiled.proofs.Answered.{asked, accepted}
 use Rattle.tiled.proofs.Reaches.{plan-cut, plan-fits}
 
--- k is the number that `accept_no` answered
+-- k is the number that `accept_refusal` answered
 module _ (c : Contraction) (z : Sizes) (a b d : List ℕ) {k : ℕ} (e : k ≡ refusal (layoutQuestions (tensors c) (lengths (lengthsOf a b d)) ++ sizeQuestion z)) (y : k ≡ 0) where
   pub none-refused : refusal (acceptQuestions c z (three a b d)) ≡ 0
   none-refused = sym (asked c z a b d e) ∙ y
 
   -- what `plan_of` asks
-  pub plan-asks : Accepted (tensors c) (lengths (lengthsOf a b d))
+  pub plan-asks : LayoutsPass (tensors c) (lengths (lengthsOf a b d))
   unfolding layoutQuestions eachTensor allLabels entries
   plan-asks = record { passed = refusal-both (layoutQuestions (tensors c) (lengths (lengthsOf a b d))) (sizeQuestion z) tt (sym e ∙ y) .0 }
 

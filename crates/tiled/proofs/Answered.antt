@@ -21,7 +21,7 @@ use Rattle.tiles.specs.Cut.{total}
 use Rattle.tiles.specs.Progress.{stateAt}
 use Rattle.tiled.specs.Setting.{cutOf}
 use Rattle.tiled.specs.Questions.{sizesFit, sizeQuestion, roomQuestion, doneQuestion, indexQuestion, acceptQuestions, tileQuestions, stateQuestions}
-use Rattle.tiled.specs.Call.{TileCall, refused, is, unasked, gave, ranCall, tileCall, stateCall}
+use Rattle.tiled.specs.Call.{TileCall, refused, is, stateRefused, gave, ranCall, tileCall, stateCall}
 
 -- the number that the code took of the slices' lengths
 pub asked : (c : Contraction) (z : Sizes) (a b d : List ℕ) {k : ℕ} → k ≡ refusal (layoutQuestions (tensors c) (lengths (lengthsOf a b d)) ++ sizeQuestion z)
@@ -114,22 +114,22 @@ module _ (c : Contraction) (z : Sizes) (w : Slices) where
     abbrev later-state : List Question
     later-state = doneQuestion (cutOf c z) t ++ indexQuestion (cutOf c z) h i j
 
-    pub state-early : {k : ℕ} → k ≡ refusal (acceptQuestions c z w) → (k ≡ 0 → ⊥) → unasked k ≡ stateCall c z w t h i j
+    pub state-early : {k : ℕ} → k ≡ refusal (acceptQuestions c z w) → (k ≡ 0 → ⊥) → stateRefused k ≡ stateCall c z w t h i j
     unfolding stateCall stateQuestions
-    state-early = early later-state (is (stateAt (cutOf c z) t h i j)) unasked
+    state-early = early later-state (is (stateAt (cutOf c z) t h i j)) stateRefused
 
     module _ (a : refusal (acceptQuestions c z w) ≡ 0) where
-      pub state-late : {k : ℕ} → k ≡ refusal later-state → (k ≡ 0 → ⊥) → unasked k ≡ stateCall c z w t h i j
+      pub state-late : {k : ℕ} → k ≡ refusal later-state → (k ≡ 0 → ⊥) → stateRefused k ≡ stateCall c z w t h i j
       unfolding stateCall stateQuestions
-      state-late = late-refuses later-state (is (stateAt (cutOf c z) t h i j)) unasked a
+      state-late = late-refuses later-state (is (stateAt (cutOf c z) t h i j)) stateRefused a
 
       pub state-found : {k : ℕ} → k ≡ refusal later-state → k ≡ 0 → is (stateAt (cutOf c z) t h i j) ≡ stateCall c z w t h i j
       unfolding stateCall stateQuestions
-      state-found = late-passes later-state (is (stateAt (cutOf c z) t h i j)) unasked a
+      state-found = late-passes later-state (is (stateAt (cutOf c z) t h i j)) stateRefused a
 
       pub state-answers : t ≤ total (cutOf c z)
-          → stateCall c z w t h i j ≡ cond (ltb h (cutOf c z .H) && (ltb i (cutOf c z .M) && ltb j (cutOf c z .N))) (is (stateAt (cutOf c z) t h i j)) (unasked 13)
+          → stateCall c z w t h i j ≡ cond (ltb h (cutOf c z .H) && (ltb i (cutOf c z .M) && ltb j (cutOf c z .N))) (is (stateAt (cutOf c z) t h i j)) (stateRefused 13)
       unfolding stateCall stateQuestions doneQuestion indexQuestion
       state-answers b =
-          hangs later-state (is (stateAt (cutOf c z) t h i j)) unasked a (ltb h (cutOf c z .H) && (ltb i (cutOf c z .M) && ltb j (cutOf c z .N))) 13 (omega arith)
+          hangs later-state (is (stateAt (cutOf c z) t h i j)) stateRefused a (ltb h (cutOf c z .H) && (ltb i (cutOf c z .M) && ltb j (cutOf c z .N))) 13 (omega arith)
           (rw (le-leb t (total (cutOf c z)) b))

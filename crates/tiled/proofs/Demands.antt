@@ -18,10 +18,11 @@ use Rattle.contraction.specs.Questions.{refusal}
 use Rattle.tiles.specs.declared.grid.Sizes.{Sizes}
 use Rattle.tiles.specs.Cut.{Cut, KB, total}
 use Rattle.tiles.specs.Progress.{old, final, done, stateAt}
-use Rattle.tiles.specs.Setting.{Setting, Sound, closed, walk, tilesFrom}
+use Rattle.tiles.specs.Setting.{Setting, closed, walk, tilesFrom}
 use Rattle.tiles.proofs.Numbering.{KB-pos}
 use Rattle.tiles.proofs.Progress.{done-down}
 use Rattle.tiles.proofs.States.{old-none, final-all}
+use Rattle.tiles.proofs.Sound.{Sound}
 use Rattle.tiles.proofs.Closed.{length-closed, closed-shows, walk-closed, closed-zero}
 use Rattle.tiled.specs.Setting.{cutOf, addressAt, setting}
 use Rattle.tiled.specs.Questions.{roomy, acceptQuestions}

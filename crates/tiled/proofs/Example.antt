@@ -1,4 +1,4 @@
--- The papers' worked example, by computation: A `ik`, B `kj`, D `ij`, tiles of 1 row, 1 column and depth 2, alpha 1, beta 2. It has 8 tiles.
+-- The README's example, by computation: A `ik`, B `kj`, D `ij`, tiles of 1 row, 1 column and depth 2, alpha 1, beta 2. It has 8 tiles.
 -- Assumes nothing.
 use mathlib.Core.Path.{_≡_, refl}
 use mathlib.Core.Bool.{true, false}
@@ -22,7 +22,7 @@ use Rattle.tiles.specs.Progress.{old, part, final, done, doneCount, stateAt}
 use Rattle.tiles.specs.Setting.{Setting, panelSum, doneSum, wordAt, render, closed, addPanel, tileAt, tileStep, walk, tilesFrom}
 use Rattle.tiled.specs.Setting.{addressAt, entryAt, setting}
 use Rattle.tiled.specs.Questions.{sizesFit, sizeQuestion, roomQuestion, doneQuestion, indexQuestion, acceptQuestions, tileQuestions, stateQuestions}
-use Rattle.tiled.specs.Call.{ran, refused, is, unasked, ranCall, tileCall, stateCall}
+use Rattle.tiled.specs.Call.{ran, refused, is, stateRefused, ranCall, tileCall, stateCall}
 use Rattle.tiled.specs.Demand.{Call, tiles, state, tiled, found, run}
 
 -- letters i, j and k are 105, 106 and 107
@@ -73,7 +73,7 @@ to-the-end = tiles 3 work ∷ tiles 100 work ∷ tiles 1 work ∷ state 0 1 1 �
 -- what these calls answer and leave
 pub calls : (run job sizes a b part-way 0 d
     ≡ record {
-      said = found (is old) ∷ tiled (ran 3 false) ∷ tiled (refused 11 3) ∷ found (is final) ∷ found (is part) ∷ found (is old) ∷ found (unasked 13) ∷ [];
+      said = found (is old) ∷ tiled (ran 3 false) ∷ tiled (refused 11 3) ∷ found (is final) ∷ found (is part) ∷ found (is old) ∷ found (stateRefused 13) ∷ [];
       t = 3;
       words = 211 ∷ 402 ∷ 300 ∷ 400 ∷ [];
     }) × (run job sizes a b to-the-end 0 d

@@ -13,13 +13,14 @@ use borrow.Author.Tests.{ne-eqb}
 use borrow.Rule.Slice.PartMut.{midOf, putMid}
 use Rattle.words.specs.Lists.{tabulate}
 use Rattle.words.proofs.Tabulate.{length-tabulate, getD-tabulate}
-use Rattle.tiles.specs.Cut.{Cut, width, batchOf, columnOf, panelOf, rowOf}
-use Rattle.blocks.specs.Packed.{front}
+use Rattle.tiles.specs.Cut.{Cut, width, batchOf, panelOf}
+use Rattle.tiles.proofs.Cuts.{width-le}
+use Rattle.blocks.specs.Kernel.{front}
 use Rattle.blocks.proofs.Fronts.{length-front, drop-front}
 use Rattle.blocks.proofs.Lanes.{lane-inside}
 use Rattle.blocks.proofs.Packing.{packed-at}
-use Rattle.tiled.specs.Work.{packedBlock, packedLeft, packedRight, packed, packedLast}
-use Rattle.tiles.proofs.Cuts.{width-le}
+use Rattle.tiled.specs.Side.{Side, left, right, both, sizeOn, tileOn, blockOn}
+use Rattle.tiled.specs.Work.{packedBlock, packed, packedLast}
 
 -- a front, and then a front of the part behind it
 pub two-fronts : (a b : ℕ) (f g : ℕ → ℕ) (xs : List ℕ) {ys part : List ℕ} → ys ≡ front a f xs → part ≡ front b g (midOf a (length ys - a) ys)
@@ -43,88 +44,78 @@ part-room a b f xs {ys} e h =
 abbrev pub packs : Cut → ℕ
 packs G = G .rows * G .depth + G .cols * G .depth
 
--- the word of lane l and depth d of a packed block: its place, and what it holds
-module _ (G : Cut) (size lanes b : ℕ) where
-  block-inside : (n : ℕ) {l d : ℕ} → l < width size lanes b → d < width (G .K) (G .depth) (panelOf G n) → lanes * d + l < lanes * G .depth
-  block-inside n h k = omega (arith, width-le size lanes b, lane-inside lanes k (width-le (G .K) (G .depth) (panelOf G n)) (le-refl (lanes * G .depth)))
+module _ (G : Cut) (entry : Side → ℕ → ℕ → ℕ → ℕ) where
+  open Cut G using (K, rows, cols, depth)
 
-  block-word : (entry : ℕ → ℕ → ℕ → ℕ) (n l d : ℕ) → l < width size lanes b → d < width (G .K) (G .depth) (panelOf G n)
-      → packedBlock G size lanes b entry n (lanes * d + l) ≡ entry (batchOf G n) (b * lanes + l) (panelOf G n * G .depth + d)
-  unfolding packedBlock
-  block-word entry n l d h k =
-      packed-at lanes (width size lanes b) (width (G .K) (G .depth) (panelOf G n)) (λ l d. entry (batchOf G n) (b * lanes + l) (panelOf G n * G .depth + d))
-      l d h (width-le size lanes b) k
-
-module _ (G : Cut) (left right : ℕ → ℕ → ℕ → ℕ) where
-  open Cut G using (M, N, K, rows, cols, depth)
-
-  pub length-packed : (n : ℕ) (work : List ℕ) → packs G ≤ length work → length (packed G left right n work) ≡ length work
+  pub length-packed : (n : ℕ) (work : List ℕ) → packs G ≤ length work → length (packed G entry n work) ≡ length work
   unfolding packed
   length-packed n work h = simp (length-append, length-tabulate, length-drop) (omega arith)
 
   -- ---- the words of a packed tile
 
-  at-left : (n x : ℕ) (work : List ℕ) → x < rows * depth → getD (packed G left right n work) x 0 ≡ packedLeft G left right n x
-  unfolding packed
-  at-left n x work h =
-      let f = packedLeft G left right n in
-      List·getD-append (tabulate (rows * depth) f) _ 0 x (rw (length-tabulate (rows * depth) f) h) ∙ getD-tabulate (rows * depth) f x 0 h
+  -- the place of word x of a side's block
+  abbrev placeOn : ℕ → Side → ℕ
+  placeOn x = both x (rows * depth + x)
 
-  at-right : (n x : ℕ) (work : List ℕ) → x < cols * depth → getD (packed G left right n work) (rows * depth + x) 0 ≡ packedRight G left right n x
+  block-at : (s : Side) (n x : ℕ) (work : List ℕ) → x < tileOn G s * depth → getD (packed G entry n work) (placeOn x s) 0 ≡ packedBlock G entry s n x
   unfolding packed
-  at-right n x work h =
-      let a = tabulate (rows * depth) (packedLeft G left right n) in
-      let f = packedRight G left right n in
+  block-at left n x work h =
+      let f = packedBlock G entry left n in
+      List·getD-append (tabulate (rows * depth) f) _ 0 x (rw (length-tabulate (rows * depth) f) h) ∙ getD-tabulate (rows * depth) f x 0 h
+  block-at right n x work h =
+      let a = tabulate (rows * depth) (packedBlock G entry left n) in
+      let f = packedBlock G entry right n in
       let rest = tabulate (cols * depth) f ++ drop (packs G) work in
-      ap (λ (k : ℕ). getD (a ++ rest) (k + x) 0) (sym (length-tabulate (rows * depth) (packedLeft G left right n)))
+      ap (λ (k : ℕ). getD (a ++ rest) (k + x) 0) (sym (length-tabulate (rows * depth) (packedBlock G entry left n)))
       ∙ getD-append-add a rest x 0
       ∙ List·getD-append (tabulate (cols * depth) f) _ 0 x (rw (length-tabulate (cols * depth) f) h)
       ∙ getD-tabulate (cols * depth) f x 0 h
 
-  -- A's word of row r and depth d, and B's of column c and depth d
-  pub left-word : (n r d : ℕ) (work : List ℕ) → r < width M rows (rowOf G n) → d < width K depth (panelOf G n)
-      → getD (packed G left right n work) (rows * d + r) 0 ≡ left (batchOf G n) (rowOf G n * rows + r) (panelOf G n * depth + d)
-  left-word n r d work h k = at-left n (rows * d + r) work (block-inside G M rows (rowOf G n) n h k) ∙ block-word G M rows (rowOf G n) left n r d h k
-
-  pub right-word : (n c d : ℕ) (work : List ℕ) → c < width N cols (columnOf G n) → d < width K depth (panelOf G n)
-      → getD (packed G left right n work) (rows * depth + c + cols * d) 0 ≡ right (batchOf G n) (columnOf G n * cols + c) (panelOf G n * depth + d)
-  right-word n c d work h k =
-      ap (λ (x : ℕ). getD (packed G left right n work) x 0) (omega arith)
-      ∙ at-right n (cols * d + c) work (block-inside G N cols (columnOf G n) n h k)
-      ∙ block-word G N cols (columnOf G n) right n c d h k
+  -- the word of count l of a side's block and depth count d: its place x, and what it holds
+  pub packed-entry : (s : Side) (n l d : ℕ) (work : List ℕ) → l < width (sizeOn G s) (tileOn G s) (blockOn G n s) → d < width K depth (panelOf G n)
+      → (x : ℕ) → x ≡ placeOn (tileOn G s * d + l) s
+      → getD (packed G entry n work) x 0 ≡ entry s (batchOf G n) (blockOn G n s * tileOn G s + l) (panelOf G n * depth + d)
+  unfolding packedBlock
+  packed-entry s n l d work h k x e =
+      let m = tileOn G s in
+      let b = blockOn G n s in
+      let few = width-le (sizeOn G s) m b in
+      ap (λ (y : ℕ). getD (packed G entry n work) y 0) e
+      ∙ block-at s n (m * d + l) work (omega (arith, few, lane-inside m k (width-le K depth (panelOf G n)) (le-refl (m * depth))))
+      ∙ packed-at m (width (sizeOn G s) m b) (width K depth (panelOf G n)) (λ l d. entry s (batchOf G n) (b * m + l) (panelOf G n * depth + d)) l d h few k
 
   -- ---- over a run of tiles
 
   -- the rest is as it was
-  drop-packed : (n : ℕ) (work : List ℕ) → drop (packs G) (packed G left right n work) ≡ drop (packs G) work
+  drop-packed : (n : ℕ) (work : List ℕ) → drop (packs G) (packed G entry n work) ≡ drop (packs G) work
   unfolding packed
   drop-packed n work =
-      let a = tabulate (rows * depth) (packedLeft G left right n) in
-      let b = tabulate (cols * depth) (packedRight G left right n) in
+      let a = tabulate (rows * depth) (packedBlock G entry left n) in
+      let b = tabulate (cols * depth) (packedBlock G entry right n) in
       ap (drop (packs G)) (sym (append-assoc a b (drop (packs G) work)))
       ∙ drop-at (a ++ b) (drop (packs G) work) (packs G) (simp (length-append, length-tabulate))
 
   -- to pack over what was packed
-  packed-again : (m n : ℕ) (work : List ℕ) → packed G left right n (packed G left right m work) ≡ packed G left right n work
+  packed-again : (m n : ℕ) (work : List ℕ) → packed G entry n (packed G entry m work) ≡ packed G entry n work
   unfolding packed
   packed-again m n work =
-      ap (λ (l : List ℕ). tabulate (rows * depth) (packedLeft G left right n) ++ (tabulate (cols * depth) (packedRight G left right n) ++ l)) (drop-packed m work)
+      ap (λ (l : List ℕ). tabulate (rows * depth) (packedBlock G entry left n) ++ (tabulate (cols * depth) (packedBlock G entry right n) ++ l)) (drop-packed m work)
 
   -- no tile, and one tile more
-  pub packed-none : (t : ℕ) (work : List ℕ) → packedLast G left right t 0 work ≡ work
+  pub packed-none : (t : ℕ) (work : List ℕ) → packedLast G entry t 0 work ≡ work
   unfolding packedLast
   packed-none t work = refl
 
-  packed-some : (t n : ℕ) (work : List ℕ) → packedLast G left right t (suc n) work ≡ packed G left right (t + n) work
+  packed-some : (t n : ℕ) (work : List ℕ) → packedLast G entry t (suc n) work ≡ packed G entry (t + n) work
   unfolding packedLast
   packed-some t n work =
-      ap (λ (x : Bool). cond x work (packed G left right (t + suc n - 1) work)) (ne-eqb (suc n) 0 (suc-ne-zero n))
-      ∙ ap (λ (k : ℕ). packed G left right k work) (omega arith)
+      ap (λ (x : Bool). cond x work (packed G entry (t + suc n - 1) work)) (ne-eqb (suc n) 0 (suc-ne-zero n))
+      ∙ ap (λ (k : ℕ). packed G entry k work) (omega arith)
 
-  pub packed-next : (t n : ℕ) (work : List ℕ) → packed G left right (t + n) (packedLast G left right t n work) ≡ packedLast G left right t (suc n) work
+  pub packed-next : (t n : ℕ) (work : List ℕ) → packed G entry (t + n) (packedLast G entry t n work) ≡ packedLast G entry t (suc n) work
   packed-next t zero work = rw (packed-none t work) (sym (packed-some t zero work))
   packed-next t (suc n) work = rw (packed-some t n work, packed-again (t + n) (t + suc n) work) (sym (packed-some t (suc n) work))
 
-  pub length-last : (t n : ℕ) (work : List ℕ) → packs G ≤ length work → length (packedLast G left right t n work) ≡ length work
+  pub length-last : (t n : ℕ) (work : List ℕ) → packs G ≤ length work → length (packedLast G entry t n work) ≡ length work
   length-last t zero work h = ap length (packed-none t work)
   length-last t (suc n) work h = ap length (packed-some t n work) ∙ length-packed (t + n) work h

@@ -16,7 +16,8 @@ use Rattle.layout.specs.Questions.{points, pointsFit}
 use Rattle.contraction.specs.declared.contraction.Contraction.{Contraction}
 use Rattle.contraction.specs.declared.plan.Plan.{Plan}
 use Rattle.contraction.specs.Operands.{Operand, A, B, D, tensors, together}
-use Rattle.contraction.specs.Groups.{Label, Group, batch, row, column, depth, group, size, labelsIn, offset, offsetIn}
+use Rattle.contraction.specs.Groups.{Label, Group, batch, row, column, depth, group, size, offset, offsetIn}
+use Rattle.contraction.specs.Held.{labelsIn}
 use Rattle.contraction.specs.Index.{index}
 use Rattle.contraction.specs.Meaning.{shapeIn}
 use Rattle.contraction.specs.Offsets.{wordsIn}
@@ -27,6 +28,7 @@ use Rattle.contraction.proofs.Foldable.{group-foldable, fold-foldable}
 use Rattle.contraction.proofs.GroupSizes.{group-sizes, group-size-pos}
 use Rattle.contraction.proofs.Reached.{index-inside, reached-index}
 use Rattle.tiles.specs.declared.grid.Sizes.{Sizes}
+use Rattle.tiled.specs.Side.{Side, left, right, both, tensorOn, groupOn, sizeOn}
 use Rattle.tiled.specs.Setting.{counts, cutOf, addressAt}
 use Rattle.tiled.specs.Questions.{sizesFit}
 use Rattle.tiled.proofs.TileSizes.{sizes-limited}
@@ -84,6 +86,12 @@ module _ (c : Contraction) (n : Operand → ℕ) (ok : AllPassed (tensors c) n) 
       }
 
   -- ---- places
+
+  -- an address word is that of a tensor's entry at four counts, and inside its slice
+  pub record Entry (o : Operand) (x : ℕ) (at : Group → ℕ) : Type 0 where
+    pub is : x ≡ address (tensors c o) (index (shapeIn c) at)
+    pub inside : x < n o
+
   module _ (h i j k : ℕ) (bh : h < size (group (shapeIn c) batch)) (bi : i < size (group (shapeIn c) row)) (bj : j < size (group (shapeIn c) column))
       (bk : k < size (group (shapeIn c) depth)) where
     below : (g : Group) → counts h i j k g < size (group (shapeIn c) g)
@@ -92,43 +100,41 @@ module _ (c : Contraction) (n : Operand → ℕ) (ok : AllPassed (tensors c) n) 
     below column = bj
     below depth = bk
 
-    inside-slice : (o : Operand) → address (tensors c o) (index (shapeIn c) (counts h i j k)) < n o
-    inside-slice o = index-inside (tensors c) n ok (counts h i j k) below o .1
-
     -- the base and the offsets of four counts, added in any order
-    reached : (o : Operand) (x : ℕ)
+    reached : (o : Operand) {x y : ℕ} → y ≡ word 64 x
         → x ≡ wordsIn (p .base) o + offsetIn (wordOf 64) o (labelsIn (planned p batch)) h + offsetIn (wordOf 64) o (labelsIn (planned p row)) i
         + offsetIn (wordOf 64) o (labelsIn (planned p column)) j + offsetIn (wordOf 64) o (labelsIn (planned p depth)) k
-        → word 64 x ≡ address (tensors c o) (index (shapeIn c) (counts h i j k))
+        → Entry o y (counts h i j k)
     unfolding group
-    reached o x e =
-        ap (word 64) (omega (arith, rw (q .bases o, q .groups batch, q .groups row, q .groups column, q .groups depth) at e))
-        ∙ reached-index (tensors c) n ok (counts h i j k) below o
+    reached o {x} {y} w e =
+        let is : y ≡ address (tensors c o) (index (shapeIn c) (counts h i j k)) =
+        w ∙ ap (word 64) (omega (arith, rw (q .bases o, q .groups batch, q .groups row, q .groups column, q .groups depth) at e))
+        ∙ reached-index (tensors c) n ok (counts h i j k) below o in
+        record { is = is; inside = rw is (index-inside (tensors c) n ok (counts h i j k) below o .1) }
 
   -- the offset of count 0 of a group in a tensor
   zero-offset : (o : Operand) (g : Group) → offsetIn (wordOf 64) o (labelsIn (planned p g)) 0 ≡ 0
   zero-offset o g = offset-zero _ (labelsIn (planned p g))
 
-  pub reaches-a : (h i k : ℕ) → h < size (group (shapeIn c) batch) → i < size (group (shapeIn c) row) → k < size (group (shapeIn c) depth)
-      → placeIn p row A h i k ≡ address (tensors c A) (index (shapeIn c) (counts h i 0 k))
+  pub side-entry : (s : Side) (h m k : ℕ) → h < size (group (shapeIn c) batch) → m < size (group (shapeIn c) (groupOn s)) → k < size (group (shapeIn c) depth)
+      → Entry (tensorOn s) (placeIn p s h m k) (counts h (both m 0 s) (both 0 m s) k)
   unfolding placeIn
-  reaches-a h i k bh bi bk = steps-whole _ _ _ _ ∙ reached h i 0 k bh bi (size-pos column) bk A _ (omega (arith, zero-offset A column))
+  side-entry left h m k bh bm bk = reached h m 0 k bh bm (size-pos column) bk A (steps-whole _ _ _ _) (omega (arith, zero-offset A column))
+  side-entry right h m k bh bm bk = reached h 0 m k bh (size-pos row) bm bk B (steps-whole _ _ _ _) (omega (arith, zero-offset B row))
 
-  pub reaches-b : (h j k : ℕ) → h < size (group (shapeIn c) batch) → j < size (group (shapeIn c) column) → k < size (group (shapeIn c) depth)
-      → placeIn p column B h j k ≡ address (tensors c B) (index (shapeIn c) (counts h 0 j k))
-  unfolding placeIn
-  reaches-b h j k bh bj bk = steps-whole _ _ _ _ ∙ reached h 0 j k bh (size-pos row) bj bk B _ (omega (arith, zero-offset B row))
+  output-entry : (h i j : ℕ) → h < size (group (shapeIn c) batch) → i < size (group (shapeIn c) row) → j < size (group (shapeIn c) column)
+      → Entry D (placeD p h i j) (counts h i j 0)
+  unfolding placeD
+  output-entry h i j bh bi bj = reached h i j 0 bh bi bj (size-pos depth) D (steps _ _ _ _) (omega (arith, zero-offset D depth))
 
   pub reaches-d : (h i j : ℕ) → h < size (group (shapeIn c) batch) → i < size (group (shapeIn c) row) → j < size (group (shapeIn c) column)
       → placeD p h i j ≡ addressAt c h i j
-  unfolding placeD addressAt
-  reaches-d h i j bh bi bj = steps _ _ _ _ ∙ reached h i j 0 bh bi bj (size-pos depth) D _ (omega (arith, zero-offset D depth))
+  unfolding addressAt
+  reaches-d h i j bh bi bj = output-entry h i j bh bi bj .is
 
   pub clear : (z : Sizes) → Clear p (cutOf c z) (n A) (n B) (n D)
-  unfolding addressAt
-  clear z =
-      record {
-        inA = λ h i k bh bi bk. rw (reaches-a h i k bh bi bk) (inside-slice h i 0 k bh bi (size-pos column) bk A);
-        inB = λ h j k bh bj bk. rw (reaches-b h j k bh bj bk) (inside-slice h 0 j k bh (size-pos row) bj bk B);
-        inD = λ h i j bh bi bj. rw (reaches-d h i j bh bi bj) (inside-slice h i j 0 bh bi bj (size-pos depth) D);
-      }
+  clear z = record { inSide = in-side; inD = λ h i j bh bi bj. output-entry h i j bh bi bj .inside }
+    where
+      in-side : (s : Side) (h m k : ℕ) → h < cutOf c z .H → m < sizeOn (cutOf c z) s → k < cutOf c z .K → placeIn p s h m k < both (n A) (n B) s
+      in-side left h m k bh bm bk = side-entry left h m k bh bm bk .inside
+      in-side right h m k bh bm bk = side-entry right h m k bh bm bk .inside

@@ -15,7 +15,7 @@ use Rattle.layout.specs.Layout.{axes, address}
 use Rattle.layout.specs.Bounds.{InRange}
 use Rattle.layout.proofs.Bounds.{inside-every}
 use Rattle.contraction.specs.declared.contraction.Contraction.{Contraction}
-use Rattle.contraction.specs.Operands.{A, B, D, tensors}
+use Rattle.contraction.specs.Operands.{Operand, A, B, D, tensors}
 use Rattle.contraction.specs.Groups.{letters, batch, row, column, inGroup, group}
 use Rattle.contraction.specs.Index.{index}
 use Rattle.contraction.specs.Meaning.{Slices, shapeIn, entry, result}
@@ -27,7 +27,8 @@ use Rattle.contraction.proofs.Result.{parts-apart, length-result, term, value-c
 use Rattle.contraction.proofs.Values.{result-in-range, result-elsewhere}
 use Rattle.tiles.specs.declared.grid.Sizes.{Sizes}
 use Rattle.tiles.specs.Cut.{Cut, total}
-use Rattle.tiles.specs.Setting.{Sound, closed, direct}
+use Rattle.tiles.specs.Setting.{settingBy, closed}
+use Rattle.tiles.proofs.Sound.{Sound, direct}
 use Rattle.tiles.proofs.Closed.{shows-render, closed-total}
 use Rattle.tiled.specs.Setting.{counts, cutOf, addressAt, entryAt, setting}
 use Rattle.tiled.specs.Questions.{sizesFit}
@@ -36,14 +37,10 @@ use Rattle.tiled.proofs.TileSizes.{sizes-limited}
 -- the setting reads A and B only
 pub setting-same : (c : Contraction) (z : Sizes) (v w : Slices) → v A ≡ w A → v B ≡ w B → setting c z v ≡ setting c z w
 unfolding setting entryAt entry
-setting-same c z v w e f = λ x. record {
-  cut = cutOf c z;
-  addr = addressAt c;
-  term = λ h i j k.
-      getD (e x) (address (tensors c A) (index (shapeIn c) (counts h i j k))) 0 * getD (f x) (address (tensors c B) (index (shapeIn c) (counts h i j k))) 0;
-  alpha = c .alpha;
-  start = λ h i j old. c .beta * old;
-}
+setting-same c z v w e f = λ x. settingBy (cutOf c z) (addressAt c) (at A (e x)) (at B (f x)) (c .alpha) (c .beta)
+  where
+    at : Operand → List ℕ → ℕ → ℕ → ℕ → ℕ → ℕ
+    at o words h i j k = getD words (address (tensors c o) (index (shapeIn c) (counts h i j k))) 0
 
 module _ (c : Contraction) where
   -- the batch, row and column labels at their counts, and the index of these

@@ -14,7 +14,8 @@ use Rattle.layout.specs.Limits.{productLimit, blockLimit, depthLimit}
 use Rattle.contraction.specs.declared.plan.Plan.{Plan}
 use Rattle.contraction.specs.declared.offsets.Offsets.{Offsets}
 use Rattle.contraction.specs.Operands.{Operand}
-use Rattle.contraction.specs.Groups.{batch, row, column, depth, labelsIn, size, offsetIn}
+use Rattle.contraction.specs.Groups.{batch, row, column, depth, size, offsetIn}
+use Rattle.contraction.specs.Held.{labelsIn}
 use Rattle.contraction.specs.Offsets.{wordsIn, Words}
 use Rattle.contraction.specs.Plan.{planned}
 use Rattle.tiles.specs.declared.grid.Grid.{Grid}
@@ -25,7 +26,8 @@ use Rattle.tiles.proofs.Sizes.{M-small, N-small, K-small, tile-in}
 use Rattle.blocks.specs.Block.{Laid, Blocked}
 use Rattle.blocks.proofs.Fronts.{getD-front}
 use Rattle.tiled.specs.declared.stand.Stand.{Stand}
-use Rattle.tiled.specs.Planned.{atBatch, GridOf, Stands, startsIn}
+use Rattle.tiled.specs.Side.{Side, left, right, groupOn, sizeOn, tileOn, blockOn}
+use Rattle.tiled.specs.Planned.{atBatch, GridOf, Stands, startsIn, blocksOn}
 
 -- of a group whose size fits 32 bits, block k ends inside and keeps to the limit of a block's size
 block-in : {size limit : ℕ} (n b k : ℕ) {w : ℕ} → n ≡ size → n ≤ productLimit → k * b ≤ n → b ≤ limit → w ≡ width n b k
@@ -70,8 +72,7 @@ module _ {p : Plan} {g : Grid} {n : ℕ} (q : GridOf p g × (n < total (cutIn g)
   stands {s} {before = before} er ec ef wb wf r c l f =
       record {
         from = from;
-        rows = rw (er, t .row) at r;
-        cols = rw (ec, t .column) at c;
+        blocks = blocks;
         filled = rw (t .panel) at ef;
         starts = λ o k h.
             ap (λ (v : List ℕ). getD v k 0) (l .each o)
@@ -82,3 +83,8 @@ module _ {p : Plan} {g : Grid} {n : ℕ} (q : GridOf p g × (n < total (cutIn g)
     where
       from : (o : Operand) → wordsIn (s .from) o ≡ atBatch p (batchOf (cutIn g) n) o
       from o = rw (wb .each o, t .batch) at (wf .each o)
+
+      blocks : (y : Side) → let G = cutIn g in
+          Blocked (labelsIn (planned p (groupOn y))) (blockOn G n y * tileOn G y) (width (sizeOn G y) (tileOn G y) (blockOn G n y)) (blocksOn p s y)
+      blocks left = rw (er, t .row) at r
+      blocks right = rw (ec, t .column) at c

@@ -31,7 +31,7 @@ doneIn (refused number done) = done
 -- a state, or the number of the question that refused
 pub data StateAnswer : Type 0 where
   is : State → StateAnswer
-  unasked : (number : ℕ) → StateAnswer
+  stateRefused : (number : ℕ) → StateAnswer
 
 -- the answers that the code's enums give
 abbrev pub tileAnswer : Outcome → TileAnswer
@@ -42,7 +42,7 @@ abbrev pub stateAnswer : Found → StateAnswer
 stateAnswer Found.Old = is old
 stateAnswer Found.Part = is part
 stateAnswer Found.Final = is final
-stateAnswer (Found.Refused number) = unasked number
+stateAnswer (Found.Refused number) = stateRefused number
 
 -- the answer of a tile call, D's words and the work slice afterwards
 pub record TileCall : Type 0 where
@@ -76,4 +76,4 @@ module _ (c : Contraction) (z : Sizes) (w : Slices) where
   stateCall t h i j =
       cond (eqb (refusal (stateQuestions c z w t h i j)) 0)
       (is (stateAt (cutOf c z) t h i j))
-      (unasked (refusal (stateQuestions c z w t h i j)))
+      (stateRefused (refusal (stateQuestions c z w t h i j)))

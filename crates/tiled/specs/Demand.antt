@@ -16,7 +16,7 @@ use Rattle.tiles.specs.Progress.{old, final, done, stateAt}
 use Rattle.tiles.specs.Setting.{wordAt}
 use Rattle.tiled.specs.Setting.{cutOf, addressAt, setting}
 use Rattle.tiled.specs.Questions.{roomy, isIndex}
-use Rattle.tiled.specs.Call.{TileAnswer, ran, refused, doneIn, StateAnswer, is, unasked, tileCall, stateCall}
+use Rattle.tiled.specs.Call.{TileAnswer, ran, refused, doneIn, StateAnswer, is, stateRefused, tileCall, stateCall}
 
 pub data Call : Type 0 where
   tiles : (budget : ℕ) (work : List ℕ) → Call  -- a tile call, with its own budget and work slice
@@ -55,7 +55,7 @@ module _ (c : Contraction) (z : Sizes) where
   unfoldable pub answer : Call → ℕ → Answer
   answer (tiles budget work) t =
       tiled (cond (roomy z (length work)) (ran (next (tiles budget work) t) (eqb (next (tiles budget work) t) (total (cutOf c z)))) (refused 11 t))
-  answer (state h i j) t = found (cond (isIndex (cutOf c z) h i j) (is (stateAt (cutOf c z) t h i j)) (unasked 13))
+  answer (state h i j) t = found (cond (isIndex (cutOf c z) h i j) (is (stateAt (cutOf c z) t h i j)) (stateRefused 13))
 
   unfoldable pub count : List Call → ℕ → ℕ
   count [] t = t

@@ -1,3 +1,4 @@
+pub mod Side
 pub mod Setting
 pub mod Work
 pub mod Questions

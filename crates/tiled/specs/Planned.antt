@@ -8,18 +8,22 @@ use lib.ListN.{getD}
 use Rattle.words.specs.Words.{word, wordOf}
 use Rattle.layout.specs.Limits.{axesLimit}
 use Rattle.contraction.specs.declared.plan.Plan.{Plan}
-use Rattle.contraction.specs.Operands.{Operand, A, B, D, three}
-use Rattle.contraction.specs.Groups.{Group, batch, row, column, depth, labelsIn, size, offsetIn}
+use Rattle.contraction.specs.Operands.{Operand, D, three}
+use Rattle.contraction.specs.Groups.{Group, batch, row, column, depth, offsetIn}
+use Rattle.contraction.specs.Held.{labelsIn}
 use Rattle.contraction.specs.Offsets.{wordsIn}
 use Rattle.contraction.specs.Plan.{planned}
 use Rattle.contraction.specs.Ready.{Foldable}
 use Rattle.tiles.specs.declared.grid.Sizes.{Sizes}
 use Rattle.tiles.specs.declared.grid.Grid.{Grid}
 use Rattle.tiles.specs.Grid.{cutIn, Fits, Counted}
-use Rattle.tiles.specs.Cut.{Cut, width, batchOf, columnOf, panelOf, rowOf}
-use Rattle.tiles.specs.Setting.{Setting}
+use Rattle.tiles.specs.Cut.{Cut, width, batchOf, panelOf}
+use Rattle.tiles.specs.Setting.{Setting, settingBy}
+use Rattle.blocks.specs.declared.offsets.Blocks.{Blocks}
 use Rattle.blocks.specs.Block.{Blocked}
 use Rattle.tiled.specs.declared.stand.Stand.{Stand}
+use Rattle.tiled.specs.Side.{Side, left, right, both, tensorOn, groupOn, sizeOn, tileOn, blockOn}
+use Rattle.tiled.specs.Setting.{cutGroups}
 
 module _ (p : Plan) where
   -- how far a count of a group moves in a tensor, as an address word
@@ -33,47 +37,27 @@ module _ (p : Plan) where
   abbrev pub atDepth : ℕ → ℕ → Operand → ℕ
   atDepth h k o = word 64 (atBatch h o + offsetIn (wordOf 64) o (labelsIn (planned p depth)) k)
 
-  -- the place of a tensor's entry at a batch count, a count of a group and a depth count, and that of an output
-  unfoldable pub placeIn : Group → Operand → ℕ → ℕ → ℕ → ℕ
-  placeIn g o h m k = word 64 (atDepth h k o + moved g o m)
+  -- the place of a side's entry at a batch count, a count of its group and a depth count, and that of an output
+  unfoldable pub placeIn : Side → ℕ → ℕ → ℕ → ℕ
+  placeIn s h m k = word 64 (atDepth h k (tensorOn s) + moved (groupOn s) (tensorOn s) m)
 
   unfoldable pub placeD : ℕ → ℕ → ℕ → ℕ
   placeD h i j = word 64 (word 64 (atBatch h D + moved column D j) + moved row D i)
 
   -- the plan's groups, cut by a tile's sizes
   abbrev pub planCut : Sizes → Cut
-  planCut z =
-      record {
-        H = size (labelsIn (planned p batch));
-        M = size (labelsIn (planned p row));
-        N = size (labelsIn (planned p column));
-        K = size (labelsIn (planned p depth));
-        rows = z .rows;
-        cols = z .cols;
-        depth = z .depth;
-      }
+  planCut = cutGroups (λ g. labelsIn (planned p g))
 
   -- the words that tiles read of A and of B
-  abbrev pub leftIn : List ℕ → ℕ → ℕ → ℕ → ℕ
-  leftIn a h i k = getD a (placeIn row A h i k) 0
-
-  abbrev pub rightIn : List ℕ → ℕ → ℕ → ℕ → ℕ
-  rightIn b h j k = getD b (placeIn column B h j k) 0
+  abbrev pub readIn : List ℕ → List ℕ → Side → ℕ → ℕ → ℕ → ℕ
+  readIn a b s h m k = getD (both a b s) (placeIn s h m k) 0
 
   unfoldable pub planSetting : Cut → ℕ → ℕ → List ℕ → List ℕ → Setting
-  planSetting G alpha beta a b =
-      record {
-        cut = G;
-        addr = placeD;
-        term = λ h i j k. leftIn a h i k * rightIn b h j k;
-        alpha = alpha;
-        start = λ h i j old. beta * old;
-      }
+  planSetting G alpha beta a b = settingBy G placeD (λ h i j k. readIn a b left h i k) (λ h i j k. readIn a b right h j k) alpha beta
 
   -- all that tiles read and write is inside
   pub record Clear (G : Cut) (a b d : ℕ) : Type 0 where
-    pub inA : (h i k : ℕ) → h < G .H → i < G .M → k < G .K → placeIn row A h i k < a
-    pub inB : (h j k : ℕ) → h < G .H → j < G .N → k < G .K → placeIn column B h j k < b
+    pub inSide : (s : Side) (h m k : ℕ) → h < G .H → m < sizeOn G s → k < G .K → placeIn s h m k < both a b s
     pub inD : (h i j : ℕ) → h < G .H → i < G .M → j < G .N → placeD h i j < d
 
   -- the grid is that of the plan's groups, and their lists are in the limit
@@ -92,10 +76,12 @@ module _ (p : Plan) where
   abbrev pub startsIn : Stand → Operand → List ℕ
   startsIn s = three (s .a) (s .b) (s .d)
 
+  abbrev pub blocksOn : Stand → Side → Blocks
+  blocksOn s = both (s .rows) (s .cols)
+
   pub record Stands (G : Cut) (n : ℕ) (s : Stand) : Type 0 where
     pub from : (o : Operand) → wordsIn (s .from) o ≡ atBatch (batchOf G n) o
-    pub rows : Blocked (labelsIn (planned p row)) (rowOf G n * G .rows) (width (G .M) (G .rows) (rowOf G n)) (s .rows)
-    pub cols : Blocked (labelsIn (planned p column)) (columnOf G n * G .cols) (width (G .N) (G .cols) (columnOf G n)) (s .cols)
+    pub blocks : (x : Side) → Blocked (labelsIn (planned p (groupOn x))) (blockOn G n x * tileOn G x) (width (sizeOn G x) (tileOn G x) (blockOn G n x)) (blocksOn s x)
     pub filled : s .filled ≡ width (G .K) (G .depth) (panelOf G n)
     pub starts : (o : Operand) (k : ℕ) → k < s .filled → getD (startsIn s o) k 0 ≡ atDepth (batchOf G n) (panelOf G n * G .depth + k) o
     pub first : s .first ≡ eqb (panelOf G n) 0

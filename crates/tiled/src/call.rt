@@ -3,9 +3,9 @@ ghost use Rattle.contraction.specs.Operands.{three};
 ghost use Rattle.tiles.specs.Grid.{stateOf};
 ghost use Rattle.tiled.specs.Planned.{GridOf, PlanFits};
 ghost use Rattle.tiled.specs.Call.{is, tileAnswer, stateAnswer, gave, tileCall, stateCall};
-use super::questions::accept_no;
-use super::questions::state_no;
-use super::questions::tile_no;
+use super::questions::accept_refusal;
+use super::questions::state_refusal;
+use super::questions::tile_refusal;
 use super::run::run_tiles;
 use contraction::contraction::Contraction;
 use contraction::contraction::Lengths;
@@ -77,13 +77,13 @@ pub fn run(
         b: b.len(),
         d: d.len(),
     };
-    let number = accept_no(c, z, n);
+    let number = accept_refusal(c, z, n);
     if number != 0 {
         return Outcome::Refused { number, done };
     }
     let p = plan_of(c, n);
     let g = grid_of(p, z);
-    let number = tile_no(g, work.len(), done);
+    let number = tile_refusal(g, work.len(), done);
     if number != 0 {
         return Outcome::Refused { number, done };
     }
@@ -116,13 +116,13 @@ pub fn state(
         b: b.len(),
         d: d.len(),
     };
-    let number = accept_no(c, z, n);
+    let number = accept_refusal(c, z, n);
     if number != 0 {
         return Found::Refused(number);
     }
     let p = plan_of(c, n);
     let g = grid_of(p, z);
-    let number = state_no(g, done, h, i, j);
+    let number = state_refusal(g, done, h, i, j);
     if number != 0 {
         return Found::Refused(number);
     }

@@ -27,7 +27,7 @@ fn sizes_fit(z: Sizes) -> bool
 }
 
 // Questions 1 to 10: the number of the first no, or 0.
-pub fn accept_no(c: Contraction, z: Sizes, n: Lengths) -> u32
+pub fn accept_refusal(c: Contraction, z: Sizes, n: Lengths) -> u32
     ensures { λ r. ⌜ r ≡ refusal (layoutQuestions (tensors c) (lengths n) ++ sizeQuestion z) ⌝ }
 {
     let number = first_no(c, n);
@@ -38,7 +38,7 @@ pub fn accept_no(c: Contraction, z: Sizes, n: Lengths) -> u32
 }
 
 // Questions 11 and 12.
-pub fn tile_no(g: Grid, room: usize, done: u64) -> u32
+pub fn tile_refusal(g: Grid, room: usize, done: u64) -> u32
     requires { ⌜ Counted g ⌝ }
     ensures { λ r. ⌜ r ≡ refusal (roomQuestion (g .sizes) room ++ doneQuestion (cutIn g) done) ⌝ }
 {
@@ -54,7 +54,7 @@ pub fn tile_no(g: Grid, room: usize, done: u64) -> u32
 }
 
 // Questions 12 and 13.
-pub fn state_no(g: Grid, done: u64, h: u64, i: u64, j: u64) -> u32
+pub fn state_refusal(g: Grid, done: u64, h: u64, i: u64, j: u64) -> u32
     requires { ⌜ Counted g ⌝ }
     ensures { λ r. ⌜ r ≡ refusal (doneQuestion (cutIn g) done ++ indexQuestion (cutIn g) h i j) ⌝ }
 {

@@ -4,7 +4,7 @@ ghost use lib.ListN.{length};
 ghost use Rattle.tiles.specs.Cut.{total};
 ghost use Rattle.tiles.specs.Grid.{cutIn};
 ghost use Rattle.tiles.specs.Setting.{walk, tilesFrom};
-ghost use Rattle.tiled.specs.Planned.{GridOf, Clear, leftIn, rightIn, planSetting};
+ghost use Rattle.tiled.specs.Planned.{GridOf, Clear, readIn, planSetting};
 ghost use Rattle.tiled.specs.Work.{packedLast};
 use super::tile::run_tile;
 use contraction::plan::Plan;
@@ -24,7 +24,7 @@ pub fn run_tiles(
     count: u64,
 ) -> u64
     requires { ⌜ GridOf p g × (done + count ≤ total (cutIn g)) × Clear p (cutIn g) (length (now a)) (length (now b)) (length (now d)) × (g .sizes .rows * g .sizes .depth + g .sizes .cols * g .sizes .depth ≤ length (now work)) ⌝ }
-    ensures { λ r. ⌜ (r ≡ done + length (tilesFrom done count)) × (now (d .exit) ≡ walk (planSetting p (cutIn g) alpha beta (now (a .entry)) (now (b .entry))) (tilesFrom done count) (now (d .entry))) × (now (work .exit) ≡ packedLast (cutIn g) (leftIn p (now (a .entry))) (rightIn p (now (b .entry))) done count (now (work .entry))) ⌝ }
+    ensures { λ r. ⌜ (r ≡ done + length (tilesFrom done count)) × (now (d .exit) ≡ walk (planSetting p (cutIn g) alpha beta (now (a .entry)) (now (b .entry))) (tilesFrom done count) (now (d .entry))) × (now (work .exit) ≡ packedLast (cutIn g) (readIn p (now (a .entry)) (now (b .entry))) done count (now (work .entry))) ⌝ }
 {
     let end = done + count;
     let mut t = done;

@@ -11,7 +11,7 @@ use tiles::grid::Grid;
 use tiles::grid::width_of;
 
 // Where a tile stands: the tensors' addresses at its batch count, the offsets of its rows and columns, and for each tensor where each of the depth
-// counts of its panel begins.
+// counts of its panel begins. No tile reads `d`: it is laid so that one fact holds of any tensor.
 pub struct Stand {
     pub from: Offsets,
     pub rows: Blocks,

@@ -4,7 +4,7 @@ ghost use lib.ListN.{length};
 ghost use Rattle.tiles.specs.Cut.{total};
 ghost use Rattle.tiles.specs.Grid.{cutIn};
 ghost use Rattle.tiles.specs.Setting.{tileStep};
-ghost use Rattle.tiled.specs.Planned.{GridOf, Clear, leftIn, rightIn, planSetting};
+ghost use Rattle.tiled.specs.Planned.{GridOf, Clear, readIn, planSetting};
 ghost use Rattle.tiled.specs.Work.{packed};
 use super::stand::Stand;
 use blocks::multiply::Packing;
@@ -27,37 +27,27 @@ pub fn run_tile(
     n: u64,
 )
     requires { ⌜ GridOf p g × (n < total (cutIn g)) × Clear p (cutIn g) (length (now a)) (length (now b)) (length (now d)) × (g .sizes .rows * g .sizes .depth + g .sizes .cols * g .sizes .depth ≤ length (now work)) ⌝ }
-    ensures { λ _. ⌜ (now (d .exit) ≡ tileStep (planSetting p (cutIn g) alpha beta (now (a .entry)) (now (b .entry))) n (now (d .entry))) × (now (work .exit) ≡ packed (cutIn g) (leftIn p (now (a .entry))) (rightIn p (now (b .entry))) n (now (work .entry))) ⌝ }
+    ensures { λ _. ⌜ (now (d .exit) ≡ tileStep (planSetting p (cutIn g) alpha beta (now (a .entry)) (now (b .entry))) n (now (d .entry))) × (now (work .exit) ≡ packed (cutIn g) (readIn p (now (a .entry)) (now (b .entry))) n (now (work .entry))) ⌝ }
 {
     let s = Stand::of(p, g, n);
     let sizes = g.sizes;
+    let rows = sizes.rows as usize;
+    let cols = sizes.cols as usize;
     let depth = sizes.depth as usize;
     let filled = s.filled;
+    let behind = rows * depth;
+    pack(a, &s.a, filled, s.rows.a, rows, depth, work);
+    pack(b, &s.b, filled, s.cols.b, cols, depth, &mut work[behind..]);
     let packing = Packing {
-        rows: sizes.rows as usize,
-        cols: sizes.cols as usize,
+        rows,
+        cols,
         depth,
         filled,
     };
-    let rows = s.rows;
-    let cols = s.cols;
-    let from = s.from;
-    let starts_a = s.a;
-    let starts_b = s.b;
-    pack(a, &starts_a, filled, rows.a, packing.rows, depth, work);
-    pack(
-        b,
-        &starts_b,
-        filled,
-        cols.b,
-        packing.cols,
-        depth,
-        &mut work[packing.rows * depth..],
-    );
     let factors = Factors {
         alpha,
         beta,
         first: s.first,
     };
-    multiply(work, d, from.d, rows.d, cols.d, packing, factors);
+    multiply(work, d, s.from.d, s.rows.d, s.cols.d, packing, factors);
 }

@@ -15,11 +15,11 @@ use Rattle.words.specs.Loops.{each, put}
 use Rattle.words.proofs.Tabulate.{tabulate-suc}
 use Rattle.words.proofs.Store.{length-put, length-each, Changes, changes-iff, changes-same, changes-unique, put-changes, each-changes, over-changes}
 use Rattle.tiles.specs.Cut.{Cut, width, MB, NB, KB, total, number, batchOf, columnOf, panelOf, rowOf}
-use Rattle.tiles.specs.Progress.{old, final, stateAt}
-use Rattle.tiles.specs.Setting.{Setting, Sound, wordAt, direct, render, closed, addPanel, tileAt, tileStep, walk, tilesFrom}
+use Rattle.tiles.specs.Setting.{Setting, wordAt, render, closed, addPanel, tileAt, tileStep, walk, tilesFrom}
+use Rattle.tiles.proofs.Sound.{Sound, direct}
 use Rattle.tiles.proofs.Cuts.{block-lt, place-lt, place-eq, block-of, place-in}
 use Rattle.tiles.proofs.Numbering.{InTiles, row-number, column-number, batch-number, number-of, tile-of}
-use Rattle.tiles.proofs.Progress.{tile, Reached, reached, reached-state, reached-here, reached-next, reached-skip, reached-none, reached-all, state-none, state-all}
+use Rattle.tiles.proofs.Progress.{tile, Reached, reached, reached-here, reached-next, reached-skip, reached-none, reached-all}
 use Rattle.tiles.proofs.PanelWords.{reached-word, word-none, word-add, word-all}
 
 -- ---- output indices
@@ -132,11 +132,6 @@ module _ (S : Setting) where
       ∙ ap (tileStep S (t + (m + n))) (walk-cut t m n D)
       ∙ ap (λ (k : ℕ). tileStep S k (walk S (tilesFrom (t + m) n) (walk S (tilesFrom t m) D))) (sym (add-assoc t m n))
       ∙ sym (walk-next (t + m) n (walk S (tilesFrom t m) D))
-
-  -- ---- at the start
-
-  pub state-start : (h i j : ℕ) → stateAt cut 0 h i j ≡ old
-  state-start h i j = reached-state cut h i j (reached-none cut h i j) ∙ state-none cut
 
 module _ (S : Setting) (D : List ℕ) (ok : Sound S (length D)) where
   open Setting S using (cut, addr)
@@ -308,9 +303,6 @@ module _ (S : Setting) (D : List ℕ) (ok : Sound S (length D)) where
 
   all-reached : (h i j : ℕ) → h < H → i < M → j < N → Reached cut h i j (total cut) (KB cut)
   all-reached h i j bh bi bj = reached-all cut h i j bh (in-column (h, i, j) (bh, bi, bj)) (in-row (h, i, j) (bh, bi, bj))
-
-  pub state-end : (h i j : ℕ) → h < H → i < M → j < N → stateAt cut (total cut) h i j ≡ final
-  state-end h i j bh bi bj = reached-state cut h i j (all-reached h i j bh bi bj) ∙ state-all cut
 
   pub word-end : (h i j : ℕ) → h < H → i < M → j < N → (w : ℕ) → wordAt S (total cut) h i j w ≡ direct S h i j w
   unfolding direct

@@ -3,6 +3,7 @@ pub mod Numbering
 pub mod Progress
 pub mod States
 pub mod PanelWords
+pub mod Sound
 pub mod Closed
 pub mod Sizes
 pub mod Agree

@@ -37,10 +37,6 @@ module _ (G : Cut) where
   unfolding number rowOf
   row-number h c p b = digits-mod _ b
 
-  pub panel-number : (h c : ℕ) {p r : ℕ} → p < KB G → r < MB G → panelOf G (number G h c p r) ≡ p
-  unfolding number panelOf
-  panel-number h c bp b = ap (λ (x : ℕ). x % KB G) (digits-div _ b) ∙ digits-mod _ bp
-
   pub column-number : (h : ℕ) {c p r : ℕ} → c < NB G → p < KB G → r < MB G → columnOf G (number G h c p r) ≡ c
   unfolding number columnOf
   column-number h bc bp b = ap (λ (x : ℕ). x / KB G % NB G) (digits-div _ b) ∙ ap (λ (x : ℕ). x % NB G) (digits-div _ bp) ∙ digits-mod _ bc

@@ -1,6 +1,8 @@
 -- How the counts of a contraction's groups are cut into tiles, and the tiles' numbers.
 -- Assumes nothing.
 use Prim.Native.Nat.{ℕ, _+_, _-_, _*_, _/_, _%_, min, max}
+use Rattle.tiles.specs.declared.grid.Counts.{Counts}
+use Rattle.tiles.specs.declared.grid.Sizes.{Sizes}
 
 -- n counts cut into blocks of b: how many blocks, rounded up; and how many counts block k holds, fewer at the edge
 unfoldable pub blocks : ℕ → ℕ → ℕ
@@ -9,6 +11,7 @@ blocks n b = (n + b - 1) / b
 unfoldable pub width : ℕ → ℕ → ℕ → ℕ
 width n b k = min b (n - k * b)
 
+-- a tile is rows × cols × depth counts of the row, column and depth group, shorter at the edge; a panel is a block of depth counts, as deep as a tile
 pub record Cut : Type 0 where
   pub H : ℕ  -- batch size
   pub M : ℕ  -- row size
@@ -17,6 +20,10 @@ pub record Cut : Type 0 where
   pub rows : ℕ  -- of a tile
   pub cols : ℕ
   pub depth : ℕ
+
+-- the cut that group sizes and tile sizes make
+abbrev pub cutBy : Counts → Sizes → Cut
+cutBy n z = record { H = n .batch; M = n .row; N = n .column; K = n .depth; rows = z .rows; cols = z .cols; depth = z .depth }
 
 module _ (G : Cut) where
   open Cut G using (H, M, N, K, rows, cols, depth)

@@ -5,16 +5,11 @@ use mathlib.Core.Path.{_≡_}
 use Rattle.layout.specs.Limits.{rowsLimit, colsLimit, depthLimit, productLimit}
 use Rattle.tiles.specs.declared.grid.Grid.{Grid}
 use Rattle.tiles.specs.declared.grid.Tile.{Tile}
-use Rattle.tiles.specs.declared.grid.Counts.{Counts}
-use Rattle.tiles.specs.declared.grid.Sizes.{Sizes}
 use Rattle.tiles.specs.declared.grid.State.{State as StateCode}
-use Rattle.tiles.specs.Cut.{Cut, MB, NB, KB, total, batchOf, columnOf, panelOf, rowOf}
+use Rattle.tiles.specs.Cut.{Cut, cutBy, MB, NB, KB, total, batchOf, columnOf, panelOf, rowOf}
 use Rattle.tiles.specs.Progress.{State, old, part, final}
 
--- the cut that group sizes and tile sizes make
-abbrev pub cutBy : Counts → Sizes → Cut
-cutBy n z = record { H = n .batch; M = n .row; N = n .column; K = n .depth; rows = z .rows; cols = z .cols; depth = z .depth }
-
+-- the grid's cut
 abbrev pub cutIn : Grid → Cut
 cutIn g = cutBy (g .counts) (g .sizes)
 

@@ -1,7 +1,6 @@
 -- A contraction as its tiles see it, and D's slice after t tiles: in closed form, and by running tiles one after the other.
 -- Assumes nothing.
-use Prim.Native.Nat.{ℕ, _+_, _-_, _*_, _<_, min}
-use mathlib.Core.Path.{_≡_}
+use Prim.Native.Nat.{ℕ, _+_, _-_, _*_, min}
 use mathlib.Core.Bool.{cond}
 use mathlib.Core.List.{List, [], _∷_}
 use lib.Dec.{eqb}
@@ -19,14 +18,10 @@ pub record Setting : Type 0 where
   pub alpha : ℕ
   pub start : ℕ → ℕ → ℕ → ℕ → ℕ  -- what panel 0 starts from at h, i, j, given the old word
 
--- what the questions before any work ensure of it, for a D of `size` words
-pub record Sound (S : Setting) (size : ℕ) : Type 0 where
-  pub rows-pos : 0 < S .cut .rows
-  pub cols-pos : 0 < S .cut .cols
-  pub depth-pos : 0 < S .cut .depth
-  pub inside : (h i j : ℕ) → h < S .cut .H → i < S .cut .M → j < S .cut .N → S .addr h i j < size
-  pub apart : (h i j h′ i′ j′ : ℕ) → h < S .cut .H → i < S .cut .M → j < S .cut .N → h′ < S .cut .H → i′ < S .cut .M → j′ < S .cut .N
-      → S .addr h i j ≡ S .addr h′ i′ j′ → (h ≡ h′) × (i ≡ i′) × (j ≡ j′)
+-- a cut, where each output index lies, A's and B's entry at four counts, and the factors: a term is the product of the two entries, and panel 0 starts from
+-- beta × the old word
+abbrev pub settingBy : Cut → (ℕ → ℕ → ℕ → ℕ) → (ℕ → ℕ → ℕ → ℕ → ℕ) → (ℕ → ℕ → ℕ → ℕ → ℕ) → ℕ → ℕ → Setting
+settingBy G addr a b alpha beta = record { cut = G; addr = addr; term = λ h i j k. a h i j k * b h i j k; alpha = alpha; start = λ h i j old. beta * old }
 
 module _ (S : Setting) where
   open Setting S using (cut, addr, term, alpha, start)
@@ -45,10 +40,6 @@ module _ (S : Setting) where
   -- while panel 0 isn't done, the old word w; after that its start + alpha × that sum
   unfoldable pub wordAt : ℕ → ℕ → ℕ → ℕ → ℕ → ℕ
   wordAt t h i j w = cond (done cut t h i j 0) (word 32 (start h i j w + alpha * doneSum t h i j)) w
-
-  -- what the whole contraction makes of the word w
-  unfoldable pub direct : ℕ → ℕ → ℕ → ℕ → ℕ
-  direct h i j w = word 32 (start h i j w + alpha * sumTo K (term h i j))
 
   -- each addressed word w of the list becomes f h i j w
   unfoldable pub render : (ℕ → ℕ → ℕ → ℕ → ℕ) → List ℕ → List ℕ

@@ -1,8 +1,8 @@
 ghost use mathlib.Core.Path.{_≡_};
 ghost use Prim.Native.Nat.{_+_, _*_, _^_, _<_, _≤_};
-ghost use Rattle.tiles.specs.Cut.{blocks, width, MB, NB, KB, total, number};
+ghost use Rattle.tiles.specs.Cut.{blocks, width, cutBy, MB, NB, KB, total, number};
 ghost use Rattle.tiles.specs.Progress.{stateAt};
-ghost use Rattle.tiles.specs.Grid.{cutBy, cutIn, Fits, Counted, TileOf, stateOf};
+ghost use Rattle.tiles.specs.Grid.{cutIn, Fits, Counted, TileOf, stateOf};
 
 // The sizes of the four groups.
 pub struct Counts {

@@ -34,10 +34,6 @@ module _ (w : ℕ) where
   unfolding sumTo
   word-sum n f = word-add-left (sumTo n f) (word w (f n)) ∙ word-add-right (sumTo n f) (f n)
 
-  -- what code stores, where each part was reduced
-  pub word-store : (x a s : ℕ) → word w (word w x + word w (a * word w s)) ≡ word w (x + a * s)
-  word-store x a s = word-add-left x (word w (a * word w s)) ∙ ap (λ (y : ℕ). word w (x + y)) (word-mul-right a s) ∙ word-add-right x (a * s)
-
 -- the product of two words fits twice the width
 pub product-lt : (k : ℕ) {a b : ℕ} → a < 2 ^ k → b < 2 ^ k → a * b < 2 ^ (k + k)
 product-lt k {a} {b} ha hb =

@@ -1,4 +1,5 @@
 -- Lists of words that are read and written at the addresses of an index set, any index set.
+-- Assumes nothing.
 use mathlib.Core.Path.{_≡_, refl, sym, ap, _∙_, subst}
 use mathlib.Core.Logic.{_≢_, _⊎_, inl, inr}
 use mathlib.Core.List.{List}
@@ -8,7 +9,7 @@ use native.Mathlib.Decide.{decLt}
 use native.Mathlib.Omega.{arith}
 use lib.ListN.{length, getD, length-set}
 use lib.Seq.{getD-set-same, getD-set-other, ext-getD}
-use Rattle.words.specs.Loops.{each, put}
+use Rattle.words.specs.Loops.{each, put, Within}
 
 -- E is D with the word w of each index q that P has become g q w, and all else as it was
 module _ {Ix : Type 0} (at : Ix → ℕ) (In : Ix → Type 0) where
@@ -140,3 +141,28 @@ module _ {Ix : Type 0} (at : Ix → ℕ) (In : Ix → Type 0) (inj : (q r : Ix) 
       hits : (q : Ix) → In q → P q → Dec (Q q) → getD F (at q) 0 ≡ f q (getD D (at q) 0)
       hits q i p (yes z) = d .hit q i z ∙ ap (k q) (c .hit q i p) ∙ new q i z (getD D (at q) 0)
       hits q i p (no z) = keeps d q i z ∙ c .hit q i p ∙ same q i z (getD D (at q) 0)
+
+-- a loop that makes g k of the word at the place of each count k
+module _ (place : ℕ → ℕ) (g : ℕ → ℕ → ℕ) where
+  abbrev puts : ℕ → List ℕ → List ℕ
+  puts n = each n (λ k. put (g k) (place k))
+
+  pub length-puts : (n : ℕ) (D : List ℕ) → length (puts n D) ≡ length D
+  length-puts n = length-each n (λ k. put (g k) (place k)) (λ k. length-put (g k) (place k))
+
+  -- a word that is no place keeps its value
+  pub puts-other : (n x : ℕ) (D : List ℕ) → ((k : ℕ) → k < n → place k ≢ x) → getD (puts n D) x 0 ≡ getD D x 0
+  unfolding each put
+  puts-other zero x D off = refl
+  puts-other (suc n) x D off =
+      getD-set-other (puts n D) (place n) x (g n (getD (puts n D) (place n) 0)) 0 (λ e. off n (omega arith) (sym e))
+      ∙ puts-other n x D (λ k h. off k (omega arith))
+
+  -- each place has its own change, where no two places are the same
+  pub puts-at : (n : ℕ) (D : List ℕ) → ((i k : ℕ) → i < n → k < n → place i ≡ place k → i ≡ k) → Within n place (length D)
+      → (m : ℕ) → m < n → getD (puts n D) (place m) 0 ≡ g m (getD D (place m) 0)
+  puts-at n D inj fits m h =
+      each-changes place (λ k. k < n) inj g n (λ k. put (g k) (place k)) (λ k q. q ≡ k) D
+      (λ k b E l. put-changes place (λ k. k < n) inj g k b E (omega (arith, fits .each k b)))
+      (λ k l q p e. sym p ∙ e)
+      .hit m h (m, h, refl)

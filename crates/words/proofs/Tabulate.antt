@@ -7,7 +7,7 @@ use native.Mathlib.Numerals.{add-one}
 use native.Mathlib.Omega.{arith}
 use lib.ListN.{length, getD, set, drop}
 use lib.Seq.{ext-getD, getD-set-same, getD-set-other}
-use Rattle.words.specs.Lists.{tabulate}
+use Rattle.words.specs.Lists.{tabulate, firstOf}
 
 module _ {X : Type 0} where
   pub length-tabulate : (n : ℕ) (f : ℕ → X) → length (tabulate n f) ≡ n
@@ -28,22 +28,6 @@ module _ {X : Type 0} where
   tabulate-suc zero f = refl
   tabulate-suc (suc n) f = ap (λ (l : List X). f 0 ∷ l) (tabulate-suc n (λ i. f (suc i)))
 
-  -- a list is what its members tabulate
-  pub tabulate-getD : (d : X) (xs : List X) (n : ℕ) → length xs ≡ n → tabulate n (λ i. getD xs i d) ≡ xs
-  tabulate-getD d xs n e =
-      ext-getD d _ xs (length-tabulate n _ ∙ sym e) (λ i h. getD-tabulate n (λ i. getD xs i d) i d (omega (arith, length-tabulate n (λ i. getD xs i d))))
-
-  -- an array of which the first n places are in use, with one more stored behind them
-  pub tabulate-push : (d : X) (xs : List X) (n : ℕ) (v : X) → n < length xs
-      → tabulate (n + 1) (λ i. getD (set xs n v) i d) ≡ tabulate n (λ i. getD xs i d) ++ v ∷ []
-  tabulate-push d xs n v h =
-      rw (
-        add-one,
-        tabulate-suc,
-        getD-set-same xs n v d h,
-        tabulate-ext n {f = λ i. getD (set xs n v) i d} {g = λ i. getD xs i d} (λ i k. getD-set-other xs n i v d (λ e. omega arith)),
-      )
-
   -- what is left from a place on: nothing at the end, and one member more at the place before
   left-none : (n : ℕ) (f : ℕ → X) → drop n (tabulate n f) ≡ []
   left-none zero f = refl
@@ -54,9 +38,33 @@ module _ {X : Type 0} where
   left-cons (suc n) f zero h = refl
   left-cons (suc n) f (suc i) h = left-cons n (λ i. f (suc i)) i (omega arith)
 
-  -- of an array xs whose first n places are in use, those from place i on; d where the array ends
+  -- ---- the first n items of an array xs, d where it has fewer
+
+  pub length-firstOf : (n : ℕ) (d : X) (xs : List X) → length (firstOf n d xs) ≡ n
+  length-firstOf n d xs = length-tabulate n (λ i. getD xs i d)
+
+  pub getD-firstOf : (n : ℕ) (d : X) (xs : List X) (i : ℕ) → i < n → getD (firstOf n d xs) i d ≡ getD xs i d
+  getD-firstOf n d xs i h = getD-tabulate n (λ i. getD xs i d) i d h
+
+  pub firstOf-suc : (n : ℕ) (d : X) (xs : List X) → firstOf (n + 1) d xs ≡ firstOf n d xs ++ getD xs n d ∷ []
+  firstOf-suc n d xs = rw add-one (tabulate-suc n (λ i. getD xs i d))
+
+  -- all items of a list
+  pub firstOf-all : (d : X) (xs : List X) (n : ℕ) → length xs ≡ n → firstOf n d xs ≡ xs
+  firstOf-all d xs n e = ext-getD d _ xs (length-firstOf n d xs ∙ sym e) (λ i h. getD-firstOf n d xs i (omega (arith, length-firstOf n d xs)))
+
+  -- one more, stored behind them
+  pub firstOf-push : (d : X) (xs : List X) (n : ℕ) (v : X) → n < length xs → firstOf (n + 1) d (set xs n v) ≡ firstOf n d xs ++ v ∷ []
+  firstOf-push d xs n v h =
+      rw (
+        firstOf-suc n d (set xs n v),
+        getD-set-same xs n v d h,
+        tabulate-ext n {f = λ i. getD (set xs n v) i d} {g = λ i. getD xs i d} (λ i k. getD-set-other xs n i v d (λ e. omega arith)),
+      )
+
+  -- those from place i on
   abbrev pub from : X → List X → ℕ → ℕ → List X
-  from d xs n i = drop i (tabulate n (λ k. getD xs k d))
+  from d xs n i = drop i (firstOf n d xs)
 
   pub from-end : (d : X) (xs : List X) (n : ℕ) → from d xs n n ≡ []
   from-end d xs n = left-none n (λ k. getD xs k d)

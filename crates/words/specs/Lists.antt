@@ -4,11 +4,16 @@ use Prim.Native.Nat.{ℕ, zero, suc}
 use mathlib.Core.Bool.{Bool, true, false, not, _||_}
 use mathlib.Core.List.{List, [], _∷_}
 use lib.Dec.{eqb}
+use lib.ListN.{getD}
 
 -- f 0, f 1, .., f (n - 1)
 abbrev pub tabulate : {X : Type 0} → ℕ → (ℕ → X) → List X
 tabulate zero f = []
 tabulate (suc n) f = f 0 ∷ tabulate n (λ i. f (suc i))
+
+-- the first n items of an array, `default` where it has fewer
+abbrev pub firstOf : {X : Type 0} → ℕ → X → List X → List X
+firstOf n default xs = tabulate n (λ i. getD xs i default)
 
 abbrev pub cons-if : {X : Type 0} → Bool → X → List X → List X
 cons-if true x xs = x ∷ xs

@@ -1,6 +1,6 @@
--- A loop over counts that changes a list of words, and a store.
+-- A loop over counts that changes a list of words, and stores.
 -- Assumes nothing.
-use Prim.Native.Nat.{ℕ, zero, suc}
+use Prim.Native.Nat.{ℕ, zero, suc, _<_}
 use mathlib.Core.List.{List}
 use lib.ListN.{getD, set}
 
@@ -12,3 +12,11 @@ each (suc n) body D = body n (each n body D)
 -- the word at `at` becomes g of it
 unfoldable pub put : (ℕ → ℕ) → ℕ → List ℕ → List ℕ
 put g at D = set D at (g (getD D at 0))
+
+-- for each count below n, its value v put at its place
+abbrev pub overwrite : ℕ → (ℕ → ℕ) → (ℕ → ℕ) → List ℕ → List ℕ
+overwrite n place v = each n (λ k. put (λ was. v k) (place k))
+
+-- the place of each count below n is one of a list of `len` words
+pub record Within (n : ℕ) (place : ℕ → ℕ) (len : ℕ) : Type 0 where
+  pub each : (k : ℕ) → k < n → place k < len

@@ -32,30 +32,37 @@ impl Pattern for i32 {
 
 pub struct Guarded<T> {
     buffer: Vec<T>,
+    margin: usize,
 }
 
 impl<T: Pattern> Guarded<T> {
     pub fn around(part: &[T]) -> Self {
-        let mut buffer = Vec::with_capacity(part.len() + 2 * MARGIN);
-        buffer.extend((0..MARGIN).map(T::pattern));
+        Self::shifted(part, 0)
+    }
+
+    /// The slice starts so many words later, so that it can stand at other places modulo 16 bytes.
+    pub fn shifted(part: &[T], shift: usize) -> Self {
+        let margin = MARGIN + shift;
+        let mut buffer = Vec::with_capacity(part.len() + 2 * margin);
+        buffer.extend((0..margin).map(T::pattern));
         buffer.extend_from_slice(part);
-        buffer.extend((MARGIN..2 * MARGIN).map(T::pattern));
-        Self { buffer }
+        buffer.extend((margin..2 * margin).map(T::pattern));
+        Self { buffer, margin }
     }
 
     pub fn part(&self) -> &[T] {
-        &self.buffer[MARGIN..self.buffer.len() - MARGIN]
+        &self.buffer[self.margin..self.buffer.len() - self.margin]
     }
 
     pub fn part_mut(&mut self) -> &mut [T] {
-        let end = self.buffer.len() - MARGIN;
-        &mut self.buffer[MARGIN..end]
+        let end = self.buffer.len() - self.margin;
+        &mut self.buffer[self.margin..end]
     }
 
     /// Are the words before and after as they were?
     pub fn intact(&self) -> bool {
-        let (before, rest) = self.buffer.split_at(MARGIN);
-        let after = &rest[rest.len() - MARGIN..];
+        let (before, rest) = self.buffer.split_at(self.margin);
+        let after = &rest[rest.len() - self.margin..];
         before.iter().chain(after).enumerate().all(|(place, word)| *word == T::pattern(place))
     }
 }

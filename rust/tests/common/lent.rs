@@ -38,8 +38,14 @@ pub struct Lent {
 
 impl Lent {
     pub fn of(case: &Case) -> Self {
+        Self::shifted(case, [0; 3])
+    }
+
+    /// The words of A, B and D start so many words later.
+    pub fn shifted(case: &Case, [of_a, of_b, of_d]: [usize; 3]) -> Self {
         let [a, b, d] = case.tensors().map(LentLayout::of);
-        let [a_words, b_words, d_words] = case.tensors().map(|t| Guarded::around(&t.words));
+        let words = |t: &Tensor, shift| Guarded::shifted(&t.words, shift);
+        let (a_words, b_words, d_words) = (words(&case.a, of_a), words(&case.b, of_b), words(&case.d, of_d));
         Self { a, b, d, a_words, b_words, d_words }
     }
 

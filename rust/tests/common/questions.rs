@@ -37,7 +37,12 @@ pub fn first_no(case: &Case) -> u32 {
 
 /// That of a tile call: 1 to 12.
 pub fn first_no_of_tiles(r: &Request) -> u32 {
-    let number = first_no_to_ten(r);
+    tiles_after(first_no(&r.case), r)
+}
+
+/// The same where it is known what the first nine say.
+pub fn tiles_after(first_nine: u32, r: &Request) -> u32 {
+    let number = with_ten(first_nine, r.sizes);
     if number != 0 {
         number
     } else if (r.work.len() as u128) < work_needed(r.sizes) {
@@ -51,7 +56,12 @@ pub fn first_no_of_tiles(r: &Request) -> u32 {
 
 /// That of a state question: 1 to 10, 12 and 13.
 pub fn first_no_of_state(r: &Request) -> u32 {
-    let number = first_no_to_ten(r);
+    state_after(first_no(&r.case), r)
+}
+
+/// The same where it is known what the first nine say.
+pub fn state_after(first_nine: u32, r: &Request) -> u32 {
+    let number = with_ten(first_nine, r.sizes);
     if number != 0 {
         return number;
     }
@@ -65,9 +75,9 @@ pub fn first_no_of_state(r: &Request) -> u32 {
     }
 }
 
-fn first_no_to_ten(r: &Request) -> u32 {
-    match first_no(&r.case) {
-        0 if !sizes_fit(r.sizes) => 10,
+fn with_ten(first_nine: u32, sizes: TileSizes) -> u32 {
+    match first_nine {
+        0 if !sizes_fit(sizes) => 10,
         number => number,
     }
 }

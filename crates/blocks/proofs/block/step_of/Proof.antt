@@ -10,7 +10,7 @@ use borrow.Author.Needs.{needs}
 use lib.ListN.{getD, drop}
 use mir.Syntax.{w64}
 use mir.Val.{Fits}
-use Rattle.words.specs.Lists.{tabulate}
+use Rattle.words.specs.Lists.{firstOf}
 use Rattle.words.specs.Words.{word}
 use Rattle.layout.specs.Limits.{blockLimit}
 use Rattle.contraction.specs.Block.{even, scattered, steps, stepFrom, classify, inUse, blockStep}
@@ -18,18 +18,18 @@ use Rattle.blocks.proofs.block.step_of.Statement.{statement}
 use Rattle.blocks.proofs.block.step_of.Tie as tie
 
 -- the step of fewer than two offsets, and of two and more
-step-few : (n : ℕ) (f : ℕ → ℕ) → n < 2 → even 0 ≡ classify (tabulate n f)
+step-few : (n : ℕ) (xs : List ℕ) → n < 2 → even 0 ≡ classify (firstOf n 0 xs)
 unfolding classify
-step-few zero f h = refl
-step-few (suc zero) f h = refl
-step-few (suc (suc n)) f h = absurd (omega arith)
+step-few zero xs h = refl
+step-few (suc zero) xs h = refl
+step-few (suc (suc n)) xs h = absurd (omega arith)
 
-step-more : (n : ℕ) (f : ℕ → ℕ) → 2 ≤ n
-    → cond (steps (stepFrom (f 0) (f 1)) (f 0) (drop 1 (tabulate n f))) (even (stepFrom (f 0) (f 1))) scattered ≡ classify (tabulate n f)
+step-more : (n : ℕ) (xs : List ℕ) → 2 ≤ n
+    → cond (steps (stepFrom (getD xs 0 0) (getD xs 1 0)) (getD xs 0 0) (drop 1 (firstOf n 0 xs))) (even (stepFrom (getD xs 0 0) (getD xs 1 0))) scattered ≡ classify (firstOf n 0 xs)
 unfolding classify
-step-more zero f h = absurd (omega arith)
-step-more (suc zero) f h = absurd (omega arith)
-step-more (suc (suc n)) f h = refl
+step-more zero xs h = absurd (omega arith)
+step-more (suc zero) xs h = absurd (omega arith)
+step-more (suc (suc n)) xs h = refl
 
 -- what the code finds of two and more
 step-found : (count : ℕ) (offsets : List ℕ) {n s : ℕ} {found answer : Bool} → n ≡ min count blockLimit → 2 ≤ n → Fits w64 (getD offsets 0 0) → s < 2 ^ 64
@@ -39,14 +39,14 @@ unfolding blockStep
 step-found count offsets {n} {s} clip many fits-0 fits-s back each answers =
     let same : min n blockLimit ≡ n = omega arith in
     let first : s ≡ stepFrom (getD offsets 0 0) (getD offsets 1 0) = omega arith in
-    rw (← answers, each, first, same, ← clip) (step-more n (λ i. getD offsets i 0) many)
+    rw (← answers, each, first, same, ← clip) (step-more n offsets many)
 
 clipped-requires : tie.Need-clipped-requires
 clipped-requires c κs = search needs
 
 returns : tie.Need-returns
 unfolding blockStep
-returns c = step-few (min (c .before .before .args .count) blockLimit) (λ i. getD (c .before .before .args .t1) i 0) (omega arith)
+returns c = step-few (min (c .before .before .args .count) blockLimit) (c .before .before .args .t1) (omega arith)
 
 array-read-wrapping-sub-u64 : tie.Need-array-read-wrapping-sub-u64
 array-read-wrapping-sub-u64 c = search needs

@@ -2,28 +2,16 @@
 -- of the word there and a product: to reduce the product first changes nothing. The measure is how many are left.
 -- Assumes nothing.
 use mathlib.Core.Path.{_≡_, refl}
-use mathlib.Core.List.{List}
-use Prim.Native.Nat.{ℕ, _+_, _*_, _-_, _≤_}
-use native.Mathlib.Numerals.{add-one}
+use Prim.Native.Nat.{_-_, _≤_}
 use native.Mathlib.Omega.{arith}
-use lib.ListN.{getD, set}
-use Rattle.words.specs.Words.{word}
-use Rattle.words.specs.Loops.{each, put}
-use Rattle.words.proofs.Modular.{word-add-right}
+use Rattle.words.specs.Loops.{each}
+use Rattle.blocks.specs.Kernel.{laneAdded}
+use Rattle.blocks.proofs.Lanes.{lane-turn}
 use Rattle.blocks.proofs.kernel.add_lane.Statement.{statement}
 use Rattle.blocks.proofs.kernel.add_lane.Tie as tie
 
--- what a turn of the loop stores
-abbrev added : List ℕ → ℕ → ℕ → ℕ → List ℕ → List ℕ
-added work from by r = put (λ w. word 32 (w + getD work (from + r) 0 * by)) r
-
-turn : (work : List ℕ) (from by : ℕ) (sums₀ : List ℕ) (r : ℕ) {sums : List ℕ} {p s : ℕ} → sums ≡ each r (added work from by) sums₀
-    → p ≡ word 32 (getD work (from + r) 0 * by) → s ≡ word 32 (getD sums r 0 + p) → set sums r s ≡ each (r + 1) (added work from by) sums₀
-unfolding each put
-turn work from by sums₀ r {sums} e q t = rw (add-one, ← e, t, q, word-add-right 32 (getD sums r 0) (getD work (from + r) 0 * by))
-
 abbrev Inv-loop : tie.InvT-loop
-Inv-loop sums₀ work from count by r₀ sums r = (r ≤ count) × (sums ≡ each r (added work from by) sums₀)
+Inv-loop sums₀ work from count by r₀ sums r = (r ≤ count) × (sums ≡ laneAdded work from r by sums₀)
 
 abbrev μ-loop : tie.MeasureT-loop
 μ-loop sums₀ work from count by r₀ sums r = count - r
@@ -69,7 +57,7 @@ loop-again : tie.Need-loop-again Inv-loop μ-loop
 loop-again c =
     let s = c .before .before .before .before .before .before .before .args in
     let l = c .before .before .before .before .before .loop in
-    (omega arith, turn (s .work .now) (s .from) (s .by) (s .sums .now) (l .r) (l .inv .1) (c .before .mul .ensures) (c .wrapping-add-u32 .ensures))
+    (omega arith, lane-turn (s .work .now) (s .from) (s .by) (s .sums .now) (l .r) (l .inv .1) (c .before .mul .ensures) (c .wrapping-add-u32 .ensures))
 
 returns : tie.Need-returns Inv-loop μ-loop
 returns c =

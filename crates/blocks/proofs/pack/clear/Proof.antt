@@ -7,7 +7,7 @@ use Prim.Native.Nat.{ℕ, _+_, _-_, _≤_}
 use native.Mathlib.Omega.{arith}
 use borrow.Author.Needs.{needs}
 use lib.ListN.{length, set, length-set}
-use Rattle.blocks.specs.Packed.{stored}
+use Rattle.blocks.specs.Kernel.{stored}
 use Rattle.blocks.proofs.Fronts.{stored-none, stored-set}
 use Rattle.blocks.proofs.pack.clear.Statement.{statement}
 use Rattle.blocks.proofs.pack.clear.Tie as tie

@@ -4,19 +4,20 @@
 use mathlib.Core.Path.{_≡_, refl, ap, sym, _∙_}
 use mathlib.Core.List.{List}
 use Prim.Native.Nat.{ℕ, _-_, _<_, _≤_}
-use native.Mathlib.Nat.{mul-zero, mul-le-mul-left}
+use native.Mathlib.Nat.{le-trans, mul-zero, mul-le-mul-left}
 use native.Mathlib.Omega.{arith}
 use borrow.Author.Needs.{needs}
 use lib.ListN.{length, getD}
 use Rattle.blocks.specs.Block.{placeOf}
-use Rattle.blocks.specs.Packed.{front, packedWord}
+use Rattle.blocks.specs.Packed.{packedWord}
+use Rattle.blocks.specs.Kernel.{front}
 use Rattle.blocks.proofs.Fronts.{front-none}
 use Rattle.blocks.proofs.Lanes.{lane-inside}
 use Rattle.blocks.proofs.Packing.{packed, packed-lane, packed-rest}
 use Rattle.blocks.proofs.pack.pack.Statement.{statement}
 use Rattle.blocks.proofs.pack.pack.Tie as tie
 
--- the word that lane n and depth d pack
+-- the word that is packed at place n of lane d
 abbrev word-at : List ℕ → List ℕ → List ℕ → ℕ → ℕ → ℕ
 word-at src starts offsets n d = getD src (placeOf (getD starts d 0) offsets n) 0
 
@@ -36,7 +37,7 @@ loop-holds c =
 mul-lane : tie.Need-mul-lane Inv-loop μ-loop
 mul-lane c =
     let s = c .before .before .before .before .before in
-    omega (arith, lane-inside (s .args .width) {d = c .before .loop .d} (omega arith) (s .pre .3) (s .pre .7))
+    omega (arith, lane-inside (s .args .width) {d = c .before .loop .d} (omega arith) (s .pre .lanes) (s .pre .room))
 
 mul-pack-lane : tie.Need-mul-pack-lane Inv-loop μ-loop
 mul-pack-lane c = search needs
@@ -49,26 +50,26 @@ pack-lane-requires c κs =
     let s = c .before .before .before .before .before .before .before .before in
     let l = c .before .before .before .before .loop in
     let b : l .d < s .args .filled = omega arith in
-    (s .pre .1, s .pre .5, s .pre .6 .each (l .d) b, omega (arith, lane-inside (s .args .width) b (s .pre .3) (s .pre .7)))
+    (le-trans (s .pre .lane .fits) (s .pre .lane .narrow), s .pre .lane .stepped, s .pre .reads .each (l .d) b, omega (arith, lane-inside (s .args .width) b (s .pre .lanes) (s .pre .room)))
 
 add-clear : tie.Need-add-clear Inv-loop μ-loop
 add-clear c =
     let s = c .before .before .before .before .before .before .before .before .before .before .before .before in
     let b : c .before .before .before .before .before .before .before .before .loop .d < s .args .filled = omega arith in
-    omega (arith, lane-inside (s .args .width) b (s .pre .3) (s .pre .7))
+    omega (arith, lane-inside (s .args .width) b (s .pre .lanes) (s .pre .room))
 
 add-clear-2 : tie.Need-add-clear-2 Inv-loop μ-loop
 add-clear-2 c =
     let s = c .before .before .before .before .before .before .before .before .before .before .before .before in
     let b : c .before .before .before .before .before .before .before .before .loop .d < s .args .filled = omega arith in
-    omega (arith, lane-inside (s .args .width) b (s .pre .3) (s .pre .7))
+    omega (arith, lane-inside (s .args .width) b (s .pre .lanes) (s .pre .room))
 
 clear-requires : tie.Need-clear-requires Inv-loop μ-loop
 clear-requires c κs =
     let s = c .before .before .before .before .before .before .before .before .before .before .before .before in
     let l = c .before .before .before .before .before .before .before .before .loop in
     let b : l .d < s .args .filled = omega arith in
-    (omega arith, omega (arith, lane-inside (s .args .width) b (s .pre .3) (s .pre .7), c .before .before .before .pack-lane .kept .1 .1 .1 .1 .1 .0))
+    (omega arith, omega (arith, lane-inside (s .args .width) b (s .pre .lanes) (s .pre .room), c .before .before .before .pack-lane .kept .1 .1 .1 .1 .1 .0))
 
 add-d : tie.Need-add-d Inv-loop μ-loop
 add-d c = search needs
@@ -86,13 +87,13 @@ loop-again c =
       omega arith,
       zeros .kept .0 ∙ lane .kept .1 .1 .1 .1 .1 .0 ∙ l .inv .1,
       packed-lane (s .args .width) (s .args .block .count) (s .args .filled) (word-at (s .args .src .now) (s .args .starts .now) (s .args .block .offsets)) (s .args .out .now)
-          (l .d) (s .pre .0) b (lane-inside (s .args .width) b (s .pre .3) (s .pre .7)) (l .inv .2) (lane .ensures) (zeros .ensures),
+          (l .d) (s .pre .lane .fits) b (lane-inside (s .args .width) b (s .pre .lanes) (s .pre .room)) (l .inv .2) (lane .ensures) (zeros .ensures),
     )
 
 mul-clear : tie.Need-mul-clear Inv-loop μ-loop
 mul-clear c =
     let s = c .before .before .before .before .before .before in
-    omega (arith, mul-le-mul-left (s .args .width) (s .pre .3))
+    omega (arith, mul-le-mul-left (s .args .width) (s .pre .lanes))
 
 mul-clear-2 : tie.Need-mul-clear-2 Inv-loop μ-loop
 mul-clear-2 c = search needs
@@ -100,7 +101,7 @@ mul-clear-2 c = search needs
 clear-requires-2 : tie.Need-clear-requires-2 Inv-loop μ-loop
 clear-requires-2 c κs =
     let s = c .before .before .before .before .before .before in
-    (mul-le-mul-left (s .args .width) (s .pre .3), omega arith)
+    (mul-le-mul-left (s .args .width) (s .pre .lanes), omega arith)
 
 same-length : tie.Need-same-length Inv-loop μ-loop
 same-length c = search needs
@@ -111,7 +112,7 @@ returns c =
     let l = c .before .before .before .before .before .loop in
     let e : l .d ≡ s .args .filled = omega arith in
     packed-rest (s .args .width) (s .args .block .count) (s .args .filled) (word-at (s .args .src .now) (s .args .starts .now) (s .args .block .offsets)) (s .args .out .now)
-    (s .args .depth) (s .pre .3) (s .pre .7) (rw e at (l .inv .2)) (c .before .before .clear2 .ensures)
+    (s .args .depth) (s .pre .lanes) (s .pre .room) (rw e at (l .inv .2)) (c .before .before .clear2 .ensures)
 
 pub pack-spec : {M : Type 1} → statement M
 pack-spec =

@@ -3,20 +3,20 @@
 -- The measure is how many places are left.
 -- Assumes nothing.
 use mathlib.Core.Path.{_≡_, refl, ap, sym, _∙_}
-use mathlib.Core.List.{List}
 use Prim.Native.Nat.{ℕ, _+_, _-_, _<_, _≤_}
 use native.Mathlib.Omega.{arith}
 use borrow.Author.Needs.{needs}
 use lib.ListN.{length, getD, length-set}
-use Rattle.blocks.specs.Block.{placeOf, nextPlace, asStep, Places}
-use Rattle.blocks.specs.Packed.{stored}
+use Rattle.words.specs.Loops.{Within}
+use Rattle.blocks.specs.Block.{placeOf, nextPlace, asStep}
+use Rattle.blocks.specs.Kernel.{stored}
 use Rattle.blocks.proofs.Steps.{next-reaches}
 use Rattle.blocks.proofs.Fronts.{stored-none, stored-set}
 use Rattle.blocks.proofs.pack.pack_lane.Statement.{statement}
 use Rattle.blocks.proofs.pack.pack_lane.Tie as tie
 
 -- the place that is read
-inside : {from : ℕ} {offsets : List ℕ} {count size at r : ℕ} → Places from offsets count size → (r < count → at ≡ placeOf from offsets r) → r < count → at < size
+inside : {count size at r : ℕ} {place : ℕ → ℕ} → Within count place size → (r < count → at ≡ place r) → r < count → at < size
 inside {r = r} p e h = rw (e h) (p .each r h)
 
 abbrev Inv-loop : tie.InvT-loop

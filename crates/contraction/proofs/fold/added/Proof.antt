@@ -13,8 +13,9 @@ use Rattle.words.proofs.Lists.{all-split}
 use Rattle.layout.specs.Limits.{productLimit}
 use Rattle.contraction.specs.declared.groups.Dim.{Dim}
 use Rattle.contraction.specs.declared.groups.Group.{Group}
-use Rattle.contraction.specs.Groups.{Label, asLabel, noDim, labelsIn}
-use Rattle.contraction.specs.Fold.{joins, join, addTo}
+use Rattle.contraction.specs.Groups.{Label}
+use Rattle.contraction.specs.Fold.{joins, join}
+use Rattle.contraction.specs.Held.{asLabel, noDim, labelsIn, addTo}
 use Rattle.contraction.specs.Ready.{Small, Foldable}
 use Rattle.contraction.proofs.LabelLists.{holding, labels-push, labels-last}
 use Rattle.contraction.proofs.Folding.{add-last, last-fits}

@@ -10,8 +10,8 @@ use lib.ListN.{getD}
 use Rattle.words.proofs.Tabulate.{from, from-end, from-next}
 use Rattle.contraction.specs.declared.groups.Dim.{Dim}
 use Rattle.contraction.specs.declared.groups.Group.{Group}
-use Rattle.contraction.specs.Groups.{Label, asLabel, noDim, labelsIn}
-use Rattle.contraction.specs.Fold.{addTo}
+use Rattle.contraction.specs.Groups.{Label}
+use Rattle.contraction.specs.Held.{asLabel, noDim, labelsIn, addTo}
 use Rattle.contraction.proofs.Folding.{Folding, fold-start, fold-skip, fold-add, fold-end}
 use Rattle.contraction.proofs.fold.folded.Statement.{statement}
 use Rattle.contraction.proofs.fold.folded.Tie as tie

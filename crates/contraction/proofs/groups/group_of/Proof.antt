@@ -10,10 +10,10 @@ use native.Mathlib.Omega.{arith}
 use lib.ListN.{getD}
 use Rattle.words.specs.Lists.{keep}
 use Rattle.words.proofs.Tabulate.{from, from-end, from-next}
-use Rattle.layout.specs.Letters.{has, spelled}
+use Rattle.layout.specs.LetterSets.{has, spelled}
 use Rattle.contraction.specs.declared.groups.Group.{Group}
-use Rattle.contraction.specs.Operands.{shapeOf}
-use Rattle.contraction.specs.Groups.{label, labelsIn}
+use Rattle.contraction.specs.Groups.{label}
+use Rattle.contraction.specs.Held.{shapeOf, labelsIn}
 use Rattle.contraction.proofs.groups.group_of.Statement.{statement}
 use Rattle.contraction.proofs.groups.group_of.Tie as tie
 

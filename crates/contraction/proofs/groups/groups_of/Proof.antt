@@ -6,15 +6,17 @@ use Prim.Native.Nat.{ℕ}
 use borrow.Author.Needs.{needs}
 use Rattle.words.specs.Lists.{keep}
 use Rattle.layout.specs.declared.letters.Letters.{Letters}
-use Rattle.layout.specs.Labels.{labels, listed}
-use Rattle.layout.specs.Letters.{has, spelled, Spells}
+use Rattle.layout.specs.Labels.{labels}
+use Rattle.layout.specs.Checked.{listed}
+use Rattle.layout.specs.LetterSets.{has, spelled, Spells}
 use Rattle.contraction.specs.declared.groups.Sets.{Sets}
 use Rattle.contraction.specs.declared.groups.Group.{Group as GroupCode}
 use Rattle.contraction.specs.declared.operands.Operands.{Operands}
 use Rattle.contraction.specs.Sets.{Split}
 use Rattle.contraction.specs.Ready.{Gathered}
-use Rattle.contraction.specs.Operands.{Operand, A, B, D, three, shapeOf}
-use Rattle.contraction.specs.Groups.{Group, batch, row, column, depth, group, label, labelsIn}
+use Rattle.contraction.specs.Operands.{Operand, A, B, D, three}
+use Rattle.contraction.specs.Groups.{Group, batch, row, column, depth, group, label}
+use Rattle.contraction.specs.Held.{shapeOf, labelsIn}
 use Rattle.contraction.proofs.Sets.{setsIn, kept-group}
 use Rattle.contraction.proofs.groups.groups_of.Statement.{statement}
 use Rattle.contraction.proofs.groups.groups_of.Tie as tie

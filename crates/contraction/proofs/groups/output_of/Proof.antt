@@ -5,8 +5,9 @@ use mathlib.Core.List.{List, map}
 use Prim.Native.Nat.{ℕ}
 use borrow.Author.Needs.{needs}
 use Rattle.words.specs.Lists.{keep}
-use Rattle.layout.specs.Letters.{has}
-use Rattle.contraction.specs.Operands.{D, shapeOf}
+use Rattle.layout.specs.LetterSets.{has}
+use Rattle.contraction.specs.Operands.{D}
+use Rattle.contraction.specs.Held.{shapeOf}
 use Rattle.contraction.specs.Groups.{label}
 use Rattle.contraction.proofs.Sets.{kept-output}
 use Rattle.contraction.proofs.groups.output_of.Statement.{statement}

@@ -10,17 +10,18 @@ use Rattle.contraction.specs.declared.contraction.Lengths.{Lengths}
 use Rattle.contraction.specs.declared.operands.Operands.{Operands}
 use Rattle.contraction.specs.declared.groups.Group.{Group as GroupCode}
 use Rattle.contraction.specs.declared.groups.Groups.{Groups}
-use Rattle.contraction.specs.Operands.{A, B, D, Shape, tensors, lengths, shape, shapeOf}
-use Rattle.contraction.specs.Groups.{Group, batch, row, column, depth, group, outputs, labelsIn}
+use Rattle.contraction.specs.Operands.{A, B, D, Shape, tensors, lengths, shape}
+use Rattle.contraction.specs.Groups.{Group, batch, row, column, depth, group, outputs}
+use Rattle.contraction.specs.Held.{shapeOf, labelsIn}
 use Rattle.contraction.specs.Sets.{Grouped, groupsIn}
 use Rattle.contraction.specs.Fold.{fold}
-use Rattle.contraction.specs.Ready.{Lists, Accepted, Foldable}
+use Rattle.contraction.specs.Ready.{Lists, LayoutsPass, Foldable}
 use Rattle.contraction.proofs.Ready.{AllPassed, accepted-parts}
 use Rattle.contraction.proofs.Foldable.{accepted-rank, accepted-gathered, group-foldable, outputs-foldable, same-shape}
 use Rattle.contraction.proofs.plan.plan_of.Statement.{statement}
 use Rattle.contraction.proofs.plan.plan_of.Tie as tie
 
-module _ (c : Contraction) (n : Lengths) (a : Accepted (tensors c) (lengths n)) (x : Operands) (l : Lists c x) where
+module _ (c : Contraction) (n : Lengths) (a : LayoutsPass (tensors c) (lengths n)) (x : Operands) (l : Lists c x) where
   passed : AllPassed (tensors c) (lengths n)
   passed = accepted-parts (tensors c) (lengths n) (a .passed)
 

@@ -1,11 +1,10 @@
 -- `from_d` meets its contract: what the tensor's records read as goes on to what follows, or refuses the file.
 -- Assumes nothing.
-use mathlib.Core.Path.{refl, subst}
+use mathlib.Core.Path.{ap}
 use borrow.Author.Needs.{needs}
-use denote.Ref.{now}
 use Rattle.job.specs.Format.{fromD}
-use Rattle.job.specs.Parts.{tensorRead, TensorSound}
-use Rattle.job.proofs.Reading.{after}
+use Rattle.job.specs.Parts.{tensorParts}
+use Rattle.job.proofs.Reading.{got-held, goes-on, stops}
 use Rattle.job.proofs.reader.from_d.Statement.{statement}
 use Rattle.job.proofs.reader.from_d.Tie as tie
 
@@ -18,7 +17,7 @@ enum-known-read c = search needs
 from-go-requires : tie.Need-from-go-requires
 from-go-requires c κs =
     let r = c .before .before .before in
-    let held = subst (TensorSound (now (r .before .before .args .file))) (c .before .read .given .1) (r .tensor-records .ensures .1) in
+    let held = got-held (r .tensor-records .ensures) (ap tensorParts (c .before .read .given .1)) in
     (r .before .before .pre .0, r .before .before .pre .1, held .0, held .1)
 
 enum-known-read-2 : tie.Need-enum-known-read-2
@@ -26,17 +25,11 @@ enum-known-read-2 c = search needs
 
 returns : tie.Need-returns
 unfolding fromD
-returns c =
-    let r = c .before .before .before .before in
-    let file = now (r .before .before .args .file) in
-    (after (tensorRead file) _ (c .before .before .read .given .1) (r .tensor-records .ensures .0) (c .from-go .ensures .0), c .from-go .ensures .1)
+returns c = goes-on (c .before .before .before .before .tensor-records .ensures) _ (ap tensorParts (c .before .before .read .given .1)) (c .from-go .ensures)
 
 returns-2 : tie.Need-returns-2
 unfolding fromD
-returns-2 c =
-    let r = c .before .before .before in
-    let file = now (r .before .before .args .file) in
-    (after (tensorRead file) _ (c .before .read2 .given .1) (r .tensor-records .ensures .0) refl, tt)
+returns-2 c = stops (c .before .before .before .tensor-records .ensures) _ (ap tensorParts (c .before .read2 .given .1))
 
 pub from-d-spec : {M : Type 1} → statement M
 from-d-spec =

@@ -1,12 +1,11 @@
 -- `from_go` meets its contract: what `GO` read as is the job where the file ends there, or refuses it.
 -- Assumes nothing.
-use mathlib.Core.Path.{refl}
+use mathlib.Core.Path.{ap}
 use borrow.Author.Needs.{needs}
 use borrow.Author.Tests.{eq-eqb, ne-eqb}
-use denote.Ref.{now}
 use Rattle.job.specs.Format.{fromGo}
-use Rattle.job.specs.Parts.{goRead}
-use Rattle.job.proofs.Reading.{after}
+use Rattle.job.specs.Parts.{goPart}
+use Rattle.job.proofs.Reading.{got-held, goes-on, stops}
 use Rattle.job.proofs.reader.from_go.Statement.{statement}
 use Rattle.job.proofs.reader.from_go.Tie as tie
 
@@ -24,26 +23,20 @@ unfolding fromGo
 returns c =
     let read = c .before .before .before in
     let r = read .before .before in
-    let file = now (r .before .before .args .file) in
-    let held = r .before .before .pre in (
-      after (goRead file) _ (read .read .given .1) (r .go-record .ensures .0) (rw (eq-eqb _ _ (c .if1 .taken))),
-      record { a = held .0; b = held .1; d = held .2 },
-    )
+    let is = ap goPart (read .read .given .1) in
+    let pre = r .before .before .pre in
+    goes-on (r .go-record .ensures) _ is
+    (record { same = rw (eq-eqb _ _ (c .if1 .taken)); sound = (record { a = pre .0; b = pre .1; d = pre .2 }, got-held (r .go-record .ensures) is .1) })
 
 returns-2 : tie.Need-returns-2
 unfolding fromGo
 returns-2 c =
     let read = c .before .before .before in
-    let r = read .before .before in
-    let file = now (r .before .before .args .file) in
-    (after (goRead file) _ (read .read .given .1) (r .go-record .ensures .0) (rw (ne-eqb _ _ (c .if1 .left))), tt)
+    goes-on (read .before .before .go-record .ensures) _ (ap goPart (read .read .given .1)) (record { same = rw (ne-eqb _ _ (c .if1 .left)); sound = tt })
 
 returns-3 : tie.Need-returns-3
 unfolding fromGo
-returns-3 c =
-    let r = c .before .before .before in
-    let file = now (r .before .before .args .file) in
-    (after (goRead file) _ (c .before .read2 .given .1) (r .go-record .ensures .0) refl, tt)
+returns-3 c = stops (c .before .before .before .go-record .ensures) _ (ap goPart (c .before .read2 .given .1))
 
 pub from-go-spec : {M : Type 1} → statement M
 from-go-spec =

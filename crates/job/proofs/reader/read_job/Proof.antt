@@ -1,11 +1,10 @@
 -- `read_job` meets its contract: what the tensor's records read as goes on to what follows, or refuses the file.
 -- Assumes nothing.
-use mathlib.Core.Path.{refl, subst}
+use mathlib.Core.Path.{ap}
 use borrow.Author.Needs.{needs}
-use denote.Ref.{now}
 use Rattle.job.specs.Format.{readJob}
-use Rattle.job.specs.Parts.{tensorRead, TensorSound}
-use Rattle.job.proofs.Reading.{after}
+use Rattle.job.specs.Parts.{tensorParts}
+use Rattle.job.proofs.Reading.{got-held, goes-on, stops}
 use Rattle.job.proofs.reader.read_job.Statement.{statement}
 use Rattle.job.proofs.reader.read_job.Tie as tie
 
@@ -16,26 +15,18 @@ enum-known-read : tie.Need-enum-known-read
 enum-known-read c = search needs
 
 from-b-requires : tie.Need-from-b-requires
-from-b-requires c κs =
-    let r = c .before .before .before in
-    subst (TensorSound (now (r .before .before .args .file))) (c .before .read .given .1) (r .tensor-records .ensures .1)
+from-b-requires c κs = got-held (c .before .before .before .tensor-records .ensures) (ap tensorParts (c .before .read .given .1))
 
 enum-known-read-2 : tie.Need-enum-known-read-2
 enum-known-read-2 c = search needs
 
 returns : tie.Need-returns
 unfolding readJob
-returns c =
-    let r = c .before .before .before .before in
-    let file = now (r .before .before .args .file) in
-    (after (tensorRead file) _ (c .before .before .read .given .1) (r .tensor-records .ensures .0) (c .from-b .ensures .0), c .from-b .ensures .1)
+returns c = goes-on (c .before .before .before .before .tensor-records .ensures) _ (ap tensorParts (c .before .before .read .given .1)) (c .from-b .ensures)
 
 returns-2 : tie.Need-returns-2
 unfolding readJob
-returns-2 c =
-    let r = c .before .before .before in
-    let file = now (r .before .before .args .file) in
-    (after (tensorRead file) _ (c .before .read2 .given .1) (r .tensor-records .ensures .0) refl, tt)
+returns-2 c = stops (c .before .before .before .tensor-records .ensures) _ (ap tensorParts (c .before .read2 .given .1))
 
 pub read-job-spec : {M : Type 1} → statement M
 read-job-spec =

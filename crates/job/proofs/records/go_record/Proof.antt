@@ -21,7 +21,7 @@ has-requires c κs = search needs
 
 returns : tie.Need-returns
 unfolding goRecord
-returns c = (rw (no (c .before .has .ensures) (c .if1 .taken)), tt)
+returns c = record { same = rw (no (c .before .has .ensures) (c .if1 .taken)); sound = tt }
 
 two-bytes-requires : tie.Need-two-bytes-requires
 two-bytes-requires c κs = leb-true _ _ (yes (c .before .has .ensures) (c .if1 .left))
@@ -34,7 +34,7 @@ is-go-requires c κs = search needs
 
 returns-2 : tie.Need-returns-2
 unfolding goRecord
-returns-2 c = let m = marked (c .before) in (rw (m .there, no (m .kind) (c .if2 .taken)), tt)
+returns-2 c = let m = marked (c .before) in record { same = rw (m .there, no (m .kind) (c .if2 .taken)); sound = tt }
 
 has-requires-2 : tie.Need-has-requires-2
 has-requires-2 c κs = search needs
@@ -43,7 +43,7 @@ returns-3 : tie.Need-returns-3
 unfolding goRecord
 returns-3 c =
     let m = marked (c .before .before .before) in
-    (rw (m .there, yes (m .kind) (c .before .before .if2 .left), no (c .before .has2 .ensures) (c .if3 .taken)), tt)
+    record { same = rw (m .there, yes (m .kind) (c .before .before .if2 .left), no (c .before .has2 .ensures) (c .if3 .taken)); sound = tt }
 
 go-at-requires : tie.Need-go-at-requires
 go-at-requires c κs = leb-true _ _ (yes (c .before .has2 .ensures) (c .if3 .left))
@@ -57,7 +57,7 @@ returns-4 c =
     let left = c .before in
     let m = marked (left .before .before .before) in
     let whole = yes (left .before .has2 .ensures) (left .if3 .left) in
-    (rw (m .there, yes (m .kind) (left .before .before .if2 .left), whole, c .go-at .ensures), leb-true _ _ whole)
+    record { same = rw (m .there, yes (m .kind) (left .before .before .if2 .left), whole, c .go-at .ensures); sound = (tt, leb-true _ _ whole) }
 
 pub go-record-spec : {M : Type 1} → statement M
 go-record-spec =

@@ -36,7 +36,7 @@ has-requires c κs = search needs
 
 returns : tie.Need-returns
 unfolding layoutRecord
-returns c = (rw (no (c .before .has .ensures) (c .if1 .taken)), tt)
+returns c = record { same = rw (no (c .before .has .ensures) (c .if1 .taken)); sound = tt }
 
 two-bytes-requires : tie.Need-two-bytes-requires
 two-bytes-requires c κs = leb-true _ _ (yes (c .before .has .ensures) (c .if1 .left))
@@ -49,7 +49,7 @@ is-layout-requires c κs = search needs
 
 returns-2 : tie.Need-returns-2
 unfolding layoutRecord
-returns-2 c = let m = marked (c .before) in (rw (m .there, no (m .kind) (c .if2 .taken)), tt)
+returns-2 c = let m = marked (c .before) in record { same = rw (m .there, no (m .kind) (c .if2 .taken)); sound = tt }
 
 has-requires-2 : tie.Need-has-requires-2
 has-requires-2 c κs = search needs
@@ -58,7 +58,7 @@ returns-3 : tie.Need-returns-3
 unfolding layoutRecord
 returns-3 c =
     let m = marked (c .before .before .before) in
-    (rw (m .there, yes (m .kind) (c .before .before .if2 .left), no (c .before .has2 .ensures) (c .if3 .taken)), tt)
+    record { same = rw (m .there, yes (m .kind) (c .before .before .if2 .left), no (c .before .has2 .ensures) (c .if3 .taken)); sound = tt }
 
 add-rank : tie.Need-add-rank
 add-rank c = search needs
@@ -74,7 +74,7 @@ cast-rank c =
 
 returns-4 : tie.Need-returns-4
 unfolding layoutRecord
-returns-4 c = let t = three (c .before .before) in (rw (t .0, t .1, t .2, little-byte, lt-leb _ _ (c .if4 .taken)), tt)
+returns-4 c = let t = three (c .before .before) in record { same = rw (t .0, t .1, t .2, little-byte, lt-leb _ _ (c .if4 .taken)); sound = tt }
 
 mul-size : tie.Need-mul-size
 mul-size c = search needs
@@ -90,7 +90,7 @@ unfolding layoutRecord
 returns-5 c =
     let few = c .before .before in
     let t = three (few .before .before) in
-    (rw (t .0, t .1, t .2, little-byte, le-leb _ _ (few .if4 .left), no (c .before .has3 .ensures) (c .if5 .taken)), tt)
+    record { same = rw (t .0, t .1, t .2, little-byte, le-leb _ _ (few .if4 .left), no (c .before .has3 .ensures) (c .if5 .taken)); sound = tt }
 
 add-t11 : tie.Need-add-t11
 add-t11 c = search needs
@@ -104,10 +104,11 @@ returns-6 c =
     let few = c .before .before in
     let t = three (few .before .before) in
     let x = few .before .before .before .before .before .before .before .before .before .before .before .args in
-    let whole = yes (c .before .has3 .ensures) (c .if5 .left) in (
-      rw (t .0, t .1, t .2, little-byte, le-leb _ _ (few .if4 .left), whole),
-      (layout-held (now (x .file)) (x .from .at) _ (few .if4 .left) (leb-true _ _ whole), leb-true _ _ whole),
-    )
+    let whole = yes (c .before .has3 .ensures) (c .if5 .left) in
+    record {
+      same = rw (t .0, t .1, t .2, little-byte, le-leb _ _ (few .if4 .left), whole);
+      sound = (layout-held (now (x .file)) (x .from .at) _ (few .if4 .left) (leb-true _ _ whole), leb-true _ _ whole);
+    }
 
 pub layout-record-spec : {M : Type 1} → statement M
 layout-record-spec =

@@ -1,11 +1,10 @@
 -- `tensor_records` meets its contract: what the layout's record read as goes on to the words, or refuses the file.
 -- Assumes nothing.
-use mathlib.Core.Path.{refl, subst}
+use mathlib.Core.Path.{ap}
 use borrow.Author.Needs.{needs}
-use denote.Ref.{now}
 use Rattle.job.specs.Format.{tensorRecords}
-use Rattle.job.specs.Parts.{layoutRead, LayoutSound}
-use Rattle.job.proofs.Reading.{after}
+use Rattle.job.specs.Parts.{layoutPart}
+use Rattle.job.proofs.Reading.{got-held, goes-on, stops}
 use Rattle.job.proofs.records.tensor_records.Statement.{statement}
 use Rattle.job.proofs.records.tensor_records.Tie as tie
 
@@ -16,28 +15,18 @@ enum-known-read : tie.Need-enum-known-read
 enum-known-read c = search needs
 
 words-after-requires : tie.Need-words-after-requires
-words-after-requires c κs =
-    let r = c .before .before .before in
-    subst (LayoutSound (now (r .before .before .args .file))) (c .before .read .given .1) (r .layout-record .ensures .1)
+words-after-requires c κs = got-held (c .before .before .before .layout-record .ensures) (ap layoutPart (c .before .read .given .1))
 
 enum-known-read-2 : tie.Need-enum-known-read-2
 enum-known-read-2 c = search needs
 
 returns : tie.Need-returns
 unfolding tensorRecords
-returns c =
-    let r = c .before .before .before .before in
-    let file = now (r .before .before .args .file) in (
-      after (layoutRead file) _ (c .before .before .read .given .1) (r .layout-record .ensures .0) (c .words-after .ensures .0),
-      c .words-after .ensures .1,
-    )
+returns c = goes-on (c .before .before .before .before .layout-record .ensures) _ (ap layoutPart (c .before .before .read .given .1)) (c .words-after .ensures)
 
 returns-2 : tie.Need-returns-2
 unfolding tensorRecords
-returns-2 c =
-    let r = c .before .before .before in
-    let file = now (r .before .before .args .file) in
-    (after (layoutRead file) _ (c .before .read2 .given .1) (r .layout-record .ensures .0) refl, tt)
+returns-2 c = stops (c .before .before .before .layout-record .ensures) _ (ap layoutPart (c .before .read2 .given .1))
 
 pub tensor-records-spec : {M : Type 1} → statement M
 tensor-records-spec =

@@ -1,11 +1,10 @@
 -- `words_after` meets its contract: what the words' record read as goes on to the tensor, or refuses it.
 -- Assumes nothing.
-use mathlib.Core.Path.{refl, subst}
+use mathlib.Core.Path.{refl, ap}
 use borrow.Author.Needs.{needs}
-use denote.Ref.{now}
 use Rattle.job.specs.Format.{wordsAfter}
-use Rattle.job.specs.Parts.{wordsRead, WordsSound}
-use Rattle.job.proofs.Reading.{after}
+use Rattle.job.specs.Parts.{wordsPart}
+use Rattle.job.proofs.Reading.{got-held, goes-on, stops}
 use Rattle.job.proofs.records.words_after.Statement.{statement}
 use Rattle.job.proofs.records.words_after.Tie as tie
 
@@ -22,19 +21,13 @@ returns : tie.Need-returns
 unfolding wordsAfter
 returns c =
     let r = c .before .before .before in
-    let file = now (r .before .before .args .file) in
-    let is = c .before .read .given .1 in
-    let held = subst (WordsSound file) is (r .words-record .ensures .1) in (
-      after (wordsRead file) _ is (r .words-record .ensures .0) refl,
-      (record { layout = r .before .before .pre .0; words = held .0 }, held .1),
-    )
+    let is = ap wordsPart (c .before .read .given .1) in
+    let held = got-held (r .words-record .ensures) is in
+    goes-on (r .words-record .ensures) _ is (record { same = refl; sound = (record { layout = r .before .before .pre .0; words = held .0 }, held .1) })
 
 returns-2 : tie.Need-returns-2
 unfolding wordsAfter
-returns-2 c =
-    let r = c .before .before .before in
-    let file = now (r .before .before .args .file) in
-    (after (wordsRead file) _ (c .before .read2 .given .1) (r .words-record .ensures .0) refl, tt)
+returns-2 c = stops (c .before .before .before .words-record .ensures) _ (ap wordsPart (c .before .read2 .given .1))
 
 pub words-after-spec : {M : Type 1} → statement M
 words-after-spec =

@@ -53,7 +53,7 @@ has-requires c κs = search needs
 
 returns : tie.Need-returns
 unfolding wordsRecord
-returns c = (rw (no (c .before .has .ensures) (c .if1 .taken)), tt)
+returns c = record { same = rw (no (c .before .has .ensures) (c .if1 .taken)); sound = tt }
 
 two-bytes-requires : tie.Need-two-bytes-requires
 two-bytes-requires c κs = leb-true _ _ (yes (c .before .has .ensures) (c .if1 .left))
@@ -66,7 +66,7 @@ word-width-requires c κs = search needs
 
 returns-2 : tie.Need-returns-2
 unfolding wordsRecord
-returns-2 c = let m = marked (c .before) in (rw (m .there, ← m .kind, c .if2 .taken), tt)
+returns-2 c = let m = marked (c .before) in record { same = rw (m .there, ← m .kind, c .if2 .taken); sound = tt }
 
 has-requires-2 : tie.Need-has-requires-2
 has-requires-2 c κs = search needs
@@ -75,7 +75,7 @@ returns-3 : tie.Need-returns-3
 unfolding wordsRecord
 returns-3 c =
     let m = marked (c .before .before .before) in
-    (rw (m .there, ← m .kind, ne-eqb _ _ (c .before .before .if2 .left), no (c .before .has2 .ensures) (c .if3 .taken)), tt)
+    record { same = rw (m .there, ← m .kind, ne-eqb _ _ (c .before .before .if2 .left), no (c .before .has2 .ensures) (c .if3 .taken)); sound = tt }
 
 add-four-bytes : tie.Need-add-four-bytes
 add-four-bytes c = search needs
@@ -89,7 +89,7 @@ cast-count : tie.Need-cast-count
 cast-count c = search needs
 
 returns-4 : tie.Need-returns-4
-returns-4 c = (rw (counted (c .before), lt-leb _ _ (c .if4 .taken)), tt)
+returns-4 c = record { same = rw (counted (c .before), lt-leb _ _ (c .if4 .taken)); sound = tt }
 
 mul-size : tie.Need-mul-size
 mul-size c = omega (arith, few c)
@@ -103,7 +103,7 @@ has-requires-3 c κs = search needs
 returns-5 : tie.Need-returns-5
 returns-5 c =
     let below = c .before .before in
-    (rw (counted (below .before), le-leb _ _ (below .if4 .left), no (c .before .has3 .ensures) (c .if5 .taken)), tt)
+    record { same = rw (counted (below .before), le-leb _ _ (below .if4 .left), no (c .before .has3 .ensures) (c .if5 .taken)); sound = tt }
 
 add-t13 : tie.Need-add-t13
 add-t13 c = search needs
@@ -117,10 +117,11 @@ returns-6 c =
     let n = below .before in
     let k = n .before .before .before .before in
     let x = k .before .before .before .before .before .before .args in
-    let whole = yes (c .before .has3 .ensures) (c .if5 .left) in (
-      rw (counted n, le-leb _ _ (below .if4 .left), whole),
-      (words-held (now (x .file)) (x .from .at) _ _ (below .if4 .left) (wide (n .before .before .before)) (leb-true _ _ whole), leb-true _ _ whole),
-    )
+    let whole = yes (c .before .has3 .ensures) (c .if5 .left) in
+    record {
+      same = rw (counted n, le-leb _ _ (below .if4 .left), whole);
+      sound = (words-held (now (x .file)) (x .from .at) _ _ (below .if4 .left) (wide (n .before .before .before)) (leb-true _ _ whole), leb-true _ _ whole);
+    }
 
 pub words-record-spec : {M : Type 1} → statement M
 words-record-spec =

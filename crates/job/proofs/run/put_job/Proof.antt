@@ -13,7 +13,7 @@ contraction-in-requires : tie.Need-contraction-in-requires
 contraction-in-requires c κs = search needs
 
 -- back to the start: once the parts are at hand, and once all words are read
-abbrev start : tie.After-pd → tie.Start
+abbrev start : tie.After-part-d → tie.Start
 start c = c .before .before .before .before .before .before .before .before .before .before .before
 
 abbrev start-d : tie.After-words-in3 → tie.Start

@@ -8,8 +8,9 @@ use native.Mathlib.Omega.{arith}
 use lib.Dec.{leb, ltb}
 use Rattle.words.specs.Sums.{every}
 use Rattle.words.proofs.Tabulate.{from, from-end, from-before}
-use Rattle.layout.specs.Labels.{listed, extentOf}
-use Rattle.layout.specs.Letters.{spelled}
+use Rattle.layout.specs.Labels.{extentOf}
+use Rattle.layout.specs.Checked.{listed}
+use Rattle.layout.specs.LetterSets.{spelled}
 use Rattle.layout.specs.Questions.{strideSize, below, apart}
 use Rattle.layout.proofs.apart.all_apart.Statement.{statement}
 use Rattle.layout.proofs.apart.all_apart.Tie as tie

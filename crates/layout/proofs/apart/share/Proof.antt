@@ -6,7 +6,8 @@ use Prim.Native.Nat.{_*_, _-_, _^_, _<_}
 use native.Mathlib.Omega.{arith}
 use borrow.Author.Needs.{needs}
 use lib.Dec.{eqb, leb}
-use Rattle.layout.specs.Labels.{listed, extentOf}
+use Rattle.layout.specs.Labels.{extentOf}
+use Rattle.layout.specs.Checked.{listed}
 use Rattle.layout.specs.Questions.{strideSize}
 use Rattle.layout.proofs.Facts.{extents-bound}
 use Rattle.layout.proofs.Reach.{reach-lt}

@@ -5,7 +5,8 @@ use Prim.Native.Nat.{_+_, _^_, _<_}
 use native.Mathlib.Omega.{arith}
 use borrow.Author.Needs.{needs}
 use Rattle.words.proofs.Whole.{size-parts}
-use Rattle.layout.specs.Labels.{listed, strideOf}
+use Rattle.layout.specs.Labels.{strideOf}
+use Rattle.layout.specs.Checked.{listed}
 use Rattle.layout.specs.Questions.{strideSize}
 use Rattle.layout.proofs.Facts.{small-stride, signed-stride}
 use Rattle.layout.proofs.apart.stride_size.Statement.{statement}

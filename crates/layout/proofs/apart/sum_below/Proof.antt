@@ -8,8 +8,9 @@ use native.Mathlib.Omega.{arith}
 use lib.Dec.{eqb, leb}
 use Rattle.words.specs.Sums.{total}
 use Rattle.words.proofs.Tabulate.{from, from-end, from-before}
-use Rattle.layout.specs.Labels.{listed, extentOf}
-use Rattle.layout.specs.Letters.{spelled}
+use Rattle.layout.specs.Labels.{extentOf}
+use Rattle.layout.specs.Checked.{listed}
+use Rattle.layout.specs.LetterSets.{spelled}
 use Rattle.layout.specs.Questions.{strideSize, below}
 use Rattle.layout.proofs.apart.sum_below.Statement.{statement}
 use Rattle.layout.proofs.apart.sum_below.Tie as tie

@@ -10,8 +10,9 @@ use Rattle.words.specs.Words.{up, down, signed}
 use Rattle.words.proofs.Tabulate.{from, from-end, from-before}
 use Rattle.layout.specs.declared.axes.Axes.{Axes}
 use Rattle.layout.specs.Limits.{extentLimit}
-use Rattle.layout.specs.Labels.{listed, strideOf, extentOf}
-use Rattle.layout.specs.Letters.{spelled}
+use Rattle.layout.specs.Labels.{strideOf, extentOf}
+use Rattle.layout.specs.Checked.{listed}
+use Rattle.layout.specs.LetterSets.{spelled}
 use Rattle.layout.specs.Questions.{span}
 use Rattle.layout.proofs.Facts.{extents-bound, small-up, small-down, signed-stride}
 use Rattle.layout.proofs.Reach.{reach-lt}

@@ -7,7 +7,8 @@ use native.Mathlib.Omega.{arith}
 use borrow.Author.Needs.{needs}
 use Rattle.words.proofs.Tabulate.{from, from-end, from-before}
 use Rattle.layout.specs.Layout.{noAxis}
-use Rattle.layout.specs.Labels.{listed, extentOf}
+use Rattle.layout.specs.Labels.{extentOf}
+use Rattle.layout.specs.Checked.{listed}
 use Rattle.layout.proofs.labels.extent_of.Statement.{statement}
 use Rattle.layout.proofs.labels.extent_of.Tie as tie
 

@@ -20,7 +20,8 @@ use Rattle.words.proofs.Whole.{word-add}
 use Rattle.layout.specs.declared.layout.Axis.{Axis}
 use Rattle.layout.specs.Limits.{strideLimit}
 use Rattle.layout.specs.Layout.{noAxis}
-use Rattle.layout.specs.Labels.{listed, strideOf}
+use Rattle.layout.specs.Labels.{strideOf}
+use Rattle.layout.specs.Checked.{listed}
 use Rattle.layout.specs.Questions.{stridesValid}
 use Rattle.layout.proofs.Facts.{strides-bound, length-listed}
 use Rattle.layout.proofs.labels.stride_of.Statement.{statement}

@@ -11,8 +11,8 @@ use lib.ListN.{length, getD, length-set}
 use mir.Syntax.{w32}
 use mir.ValLaws.{toZ-ofZ}
 use borrow.Author.Needs.{needs}
-use Rattle.words.specs.Lists.{tabulate}
-use Rattle.words.proofs.Tabulate.{tabulate-getD, tabulate-push, tabulate-suc}
+use Rattle.words.specs.Lists.{tabulate, firstOf}
+use Rattle.words.proofs.Tabulate.{firstOf-all, firstOf-push, tabulate-suc}
 use Rattle.layout.specs.declared.layout.Axis.{Axis}
 use Rattle.layout.specs.Layout.{noAxis, axesOf}
 use Rattle.layout.proofs.layout.first_axes.Statement.{statement}
@@ -23,7 +23,7 @@ axisAt cs es ss i = record { letter = getD cs i 0; extent = getD es i 0; stride 
 
 abbrev Inv-loop : tie.InvT-loop
 Inv-loop letters extents strides axes₀ i₀ axes i =
-    (i ≤ 8) × (length axes ≡ 8) × (tabulate i (λ k. getD axes k noAxis) ≡ tabulate i (axisAt letters extents strides))
+    (i ≤ 8) × (length axes ≡ 8) × (firstOf i noAxis axes ≡ tabulate i (axisAt letters extents strides))
 
 abbrev μ-loop : tie.MeasureT-loop
 μ-loop letters extents strides axes₀ i₀ axes i = 8 - i
@@ -60,7 +60,7 @@ loop-again c =
     rw (toZ-ofZ w32 (c .stride-at .result) (record { sfits = c .stride-at .ok }), c .before .before .letter-at .ensures, c .before .extent-at .ensures, c .stride-at .ensures) (
       omega arith,
       length-set (l .axes) (l .i) (axis (l .i)) ∙ l .inv .1,
-      rw (tabulate-push noAxis (l .axes) (l .i) (axis (l .i)) (omega (arith, l .inv .1)), l .inv .2, add-one (l .i), tabulate-suc (l .i) axis),
+      rw (firstOf-push noAxis (l .axes) (l .i) (axis (l .i)) (omega (arith, l .inv .1)), l .inv .2, add-one (l .i), tabulate-suc (l .i) axis),
     )
 
 returns : tie.Need-returns Inv-loop μ-loop
@@ -68,7 +68,7 @@ unfolding axesOf
 returns c =
     let l = c .before .loop in
     let z : l .i ≡ 8 = omega arith in
-    sym (tabulate-getD noAxis (l .axes) 8 (l .inv .1)) ∙ (rw z at (l .inv .2))
+    sym (firstOf-all noAxis (l .axes) 8 (l .inv .1)) ∙ (rw z at (l .inv .2))
 
 pub first-axes-spec : {M : Type 1} → statement M
 first-axes-spec =

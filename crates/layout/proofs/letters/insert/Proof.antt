@@ -5,7 +5,7 @@ use Prim.Native.Nat.{_%_, _^_}
 use native.Mathlib.Omega.{arith}
 use borrow.Author.Needs.{needs}
 use lib.Dec.{eqb}
-use Rattle.layout.specs.Letters.{has}
+use Rattle.layout.specs.LetterSets.{has}
 use Rattle.layout.proofs.Bits.{has-or, has-one, shifted}
 use Rattle.layout.proofs.letters.insert.Statement.{statement}
 use Rattle.layout.proofs.letters.insert.Tie as tie

@@ -5,19 +5,19 @@ use mathlib.Core.Path.{_≡_}
 use mathlib.Core.List.{[]}
 use Prim.Native.Nat.{_≤_, _-_}
 use native.Mathlib.Omega.{arith}
-use lib.ListN.{getD}
 use borrow.Author.Needs.{needs}
-use Rattle.words.specs.Lists.{tabulate}
+use Rattle.words.specs.Lists.{firstOf}
 use Rattle.layout.specs.Layout.{noAxis}
-use Rattle.layout.specs.Labels.{listed, labels}
-use Rattle.layout.specs.Letters.{Spells}
+use Rattle.layout.specs.Labels.{labels}
+use Rattle.layout.specs.Checked.{listed}
+use Rattle.layout.specs.LetterSets.{Spells}
 use Rattle.layout.proofs.Spelling.{letter-listed, labels-next, spells-itself, spells-count}
 use Rattle.layout.proofs.letters.letters_of.Statement.{statement}
 use Rattle.layout.proofs.letters.letters_of.Tie as tie
 
 abbrev Inv-loop : tie.InvT-loop
 Inv-loop items count all₀ i₀ all i =
-    (i ≤ count) × (all .count ≤ i) × Spells all (labels (tabulate i (λ k. getD items k noAxis)))
+    (i ≤ count) × (all .count ≤ i) × Spells all (labels (firstOf i noAxis items))
 
 abbrev μ-loop : tie.MeasureT-loop
 μ-loop items count all₀ i₀ all i = count - i
@@ -51,7 +51,7 @@ loop-again : tie.Need-loop-again Inv-loop μ-loop
 loop-again c =
     let l = c .before .before .before .loop in
     let x = c .before .before .before .before .before .before .args .x in
-    (omega arith, omega (arith, c .with .ensures .1), rw (labels-next (λ k. getD (x .items) k noAxis) (l .i), ← (l .inv .2 .spells)) (c .with .ensures .0))
+    (omega arith, omega (arith, c .with .ensures .1), rw (labels-next (x .items) (l .i), ← (l .inv .2 .spells)) (c .with .ensures .0))
 
 returns : tie.Need-returns Inv-loop μ-loop
 unfolding listed

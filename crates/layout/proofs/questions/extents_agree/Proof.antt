@@ -9,7 +9,8 @@ use lib.Dec.{eqb}
 use Rattle.words.specs.Sums.{every}
 use Rattle.words.proofs.Tabulate.{from, from-end, from-before}
 use Rattle.layout.specs.Layout.{noAxis}
-use Rattle.layout.specs.Labels.{listed, extentOf}
+use Rattle.layout.specs.Labels.{extentOf}
+use Rattle.layout.specs.Checked.{listed}
 use Rattle.layout.specs.Questions.{extentsAgree}
 use Rattle.layout.proofs.questions.extents_agree.Statement.{statement}
 use Rattle.layout.proofs.questions.extents_agree.Tie as tie

@@ -13,8 +13,9 @@ use lib.ListN.{getD}
 use Rattle.words.specs.Sums.{product}
 use Rattle.words.proofs.Tabulate.{from, from-end, from-before}
 use Rattle.layout.specs.Limits.{productLimit}
-use Rattle.layout.specs.Labels.{listed, extentOf}
-use Rattle.layout.specs.Letters.{spelled}
+use Rattle.layout.specs.Labels.{extentOf}
+use Rattle.layout.specs.Checked.{listed}
+use Rattle.layout.specs.LetterSets.{spelled}
 use Rattle.layout.specs.Questions.{points, pointsFit}
 use Rattle.layout.proofs.Facts.{extents-bound}
 use Rattle.layout.proofs.questions.points_fit.Statement.{statement}

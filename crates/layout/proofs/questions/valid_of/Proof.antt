@@ -7,9 +7,8 @@ use native.Mathlib.Omega.{arith}
 use borrow.Author.Needs.{needs}
 use Rattle.words.proofs.Tabulate.{from, from-end, from-before}
 use Rattle.layout.specs.Layout.{noAxis}
-use Rattle.layout.specs.Labels.{listed}
 use Rattle.layout.specs.Questions.{lettersValid, extentsValid, stridesValid}
-use Rattle.layout.specs.Checked.{ValidOf}
+use Rattle.layout.specs.Checked.{listed, ValidOf}
 use Rattle.layout.proofs.questions.valid_of.Statement.{statement}
 use Rattle.layout.proofs.questions.valid_of.Tie as tie
 

@@ -13,7 +13,8 @@ use Rattle.layout.specs.Limits.{axesLimit}
 use Rattle.contraction.specs.declared.contraction.Contraction.{Contraction}
 use Rattle.contraction.specs.declared.plan.Plan.{Plan}
 use Rattle.contraction.specs.Operands.{three, tensors, lengths}
-use Rattle.contraction.specs.Groups.{depth, labelsIn, size}
+use Rattle.contraction.specs.Groups.{depth, size}
+use Rattle.contraction.specs.Held.{labelsIn}
 use Rattle.contraction.specs.Questions.{refusal, layoutQuestions}
 use Rattle.contraction.specs.Meaning.{result}
 use Rattle.contraction.specs.Offsets.{wordsIn}

@@ -13,7 +13,8 @@ use Rattle.words.specs.Words.{wordOf}
 use Rattle.words.specs.Loops.{each}
 use Rattle.words.proofs.Store.{each-ext, each-add}
 use Rattle.contraction.specs.Operands.{Operand, D}
-use Rattle.contraction.specs.Groups.{Label, size, offsetIn, labelsIn}
+use Rattle.contraction.specs.Groups.{Label, size, offsetIn}
+use Rattle.contraction.specs.Held.{labelsIn}
 use Rattle.contraction.specs.declared.offsets.Offsets.{Offsets}
 use Rattle.contraction.specs.Offsets.{wordsIn, Words}
 use Rattle.plain.specs.declared.walk.Walk.{Walk}

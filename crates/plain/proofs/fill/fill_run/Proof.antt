@@ -12,7 +12,8 @@ use Rattle.words.specs.Words.{word}
 use Rattle.words.specs.Loops.{each, put}
 use Rattle.words.proofs.Modular.{word-add-left, word-mul-right}
 use Rattle.contraction.specs.Operands.{Operand, A, B, D}
-use Rattle.contraction.specs.Groups.{Label, labelsIn}
+use Rattle.contraction.specs.Groups.{Label}
+use Rattle.contraction.specs.Held.{labelsIn}
 use Rattle.contraction.specs.declared.offsets.Offsets.{Offsets}
 use Rattle.contraction.specs.Meaning.{combined}
 use Rattle.contraction.specs.Offsets.{wordsIn, Words}

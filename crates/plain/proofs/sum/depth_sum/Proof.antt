@@ -10,13 +10,15 @@ use native.Mathlib.Omega.{arith}
 use lib.ListN.{getD}
 use Rattle.words.specs.Words.{word, wordOf}
 use Rattle.words.specs.Sums.{sumTo}
+use Rattle.words.specs.Loops.{Within}
 use Rattle.words.proofs.Sums.{sumTo-ext, sumTo-add}
 use Rattle.contraction.specs.declared.offsets.Offsets.{Offsets}
 use Rattle.contraction.specs.Operands.{Operand, A, B}
-use Rattle.contraction.specs.Groups.{Label, size, offsetIn, labelsIn}
+use Rattle.contraction.specs.Groups.{Label, size, offsetIn}
+use Rattle.contraction.specs.Held.{labelsIn}
 use Rattle.contraction.specs.Offsets.{wordsIn, Words}
 use Rattle.plain.specs.declared.walk.Walk.{Walk}
-use Rattle.plain.specs.Walk.{stepped, reached, dot, sumFrom, Within, Walks}
+use Rattle.plain.specs.Walk.{stepped, reached, dot, sumFrom, Walks}
 use Rattle.plain.proofs.Runs.{run-below, run-starts, run-place}
 use Rattle.plain.proofs.sum.depth_sum.Statement.{statement}
 use Rattle.plain.proofs.sum.depth_sum.Tie as tie

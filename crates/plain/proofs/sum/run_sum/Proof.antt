@@ -9,8 +9,9 @@ use native.Mathlib.Omega.{arith}
 use lib.ListN.{getD}
 use Rattle.words.specs.Words.{word}
 use Rattle.words.specs.Sums.{sumTo}
+use Rattle.words.specs.Loops.{Within}
 use Rattle.words.proofs.Modular.{word-sum}
-use Rattle.plain.specs.Walk.{stepped, dot, Within}
+use Rattle.plain.specs.Walk.{stepped, dot}
 use Rattle.plain.proofs.sum.run_sum.Statement.{statement}
 use Rattle.plain.proofs.sum.run_sum.Tie as tie
 

@@ -1,100 +1,58 @@
--- `walk_of` meets its contract. With no label the group has one count and the walk one run of it; else the first label is the run, and the size of the others the number of runs.
+-- `walk_of` meets its contract: a run is the first label's, and the size of the other labels is the number of runs. With no label there is one run of one count.
 -- Assumes nothing.
-use mathlib.Core.Path.{_≡_, refl, sym, ap, _∙_}
-use mathlib.Core.List.{List, [], _∷_, map}
-use Prim.Native.Nat.{ℕ, zero, suc, _^_, _<_, _≤_}
+use mathlib.Core.Path.{_≡_, refl}
+use mathlib.Core.List.{List, [], _∷_}
+use Prim.Native.Nat.{ℕ, _*_, _≤_}
 use native.Mathlib.Omega.{arith}
 use borrow.Author.Needs.{needs}
-use lib.ListN.{length, getD, drop, length-map}
-use mir.Val.{Val}
-use denote.Array.{each}
-use denote.Shadow.{shadow}
-use Rattle.words.specs.Words.{wordOf}
-use Rattle.words.specs.Lists.{tabulate}
-use Rattle.words.proofs.Whole.{word-signed}
+use lib.ListN.{drop}
 use Rattle.layout.specs.Limits.{axesLimit}
-use Rattle.contraction.specs.declared.groups.Dim.{Dim}
 use Rattle.contraction.specs.declared.groups.Group.{Group}
-use Rattle.contraction.specs.Operands.{Operand, A, B, D, three}
-use Rattle.contraction.specs.Groups.{Label, size, asLabel, noDim, labelsIn}
+use Rattle.contraction.specs.declared.lead.Lead.{Lead}
+use Rattle.contraction.specs.Groups.{Label, size}
+use Rattle.contraction.specs.Held.{labelsIn}
+use Rattle.contraction.specs.Lead.{lead, Leads}
 use Rattle.contraction.specs.Ready.{Foldable}
-use Rattle.contraction.proofs.groups.Dim.{the-field}
-use Rattle.plain.specs.Walk.{lead, Walks}
+use Rattle.plain.specs.Walk.{Walks}
 use Rattle.plain.proofs.walk.walk_of.Statement.{statement}
 use Rattle.plain.proofs.walk.walk_of.Tie as tie
 
--- the strides of an array's first label fit 64 bits, by what the array owns
-strides-fit : (dims : List Dim) (us : List Val) → shadow (each (the-field .row .Denot) (the-field .row .own) (map (the-field .into) dims) us) → 0 < length dims
-    → (getD dims 0 noDim .a < 2 ^ 64) × (getD dims 0 noDim .b < 2 ^ 64) × (getD dims 0 noDim .d < 2 ^ 64)
-strides-fit [] us h p = absurd (omega arith)
-strides-fit (x ∷ xs) [] h p = absurd h
-strides-fit (x ∷ xs) (u ∷ us) h p = (omega (arith, h .0), omega (arith, h .0), omega (arith, h .0))
+counted : (g : List Label) → size g ≡ lead g .extent * size (drop 1 g)
+counted [] = refl
+counted (l ∷ g) = refl
 
 no-label : (g : Group) → g .count ≡ 0 → labelsIn g ≡ []
 unfolding labelsIn
 no-label g e = rw e
 
-first : (g : Group) → 0 < g .count → labelsIn g ≡ asLabel (getD (g .dims) 0 noDim) ∷ drop 1 (labelsIn g)
-unfolding labelsIn
-first g h = go (g .count) h
-  where
-    go : (n : ℕ) → 0 < n → map asLabel (tabulate n (λ i. getD (g .dims) i noDim)) ≡ asLabel (getD (g .dims) 0 noDim) ∷ drop 1 (map asLabel (tabulate n (λ i. getD (g .dims) i noDim)))
-    go zero p = absurd (omega arith)
-    go (suc n) p = refl
+walks : (g : Group) (l : Lead) (runs : ℕ) → g .count ≤ axesLimit → Foldable (labelsIn g) → Leads (labelsIn g) l → runs ≡ size (drop 1 (labelsIn g))
+    → Walks (labelsIn g) (record { group = g; step = l .step; len = l .len; runs = runs })
+walks g l runs few foldable leads e =
+    record {
+      labels = refl;
+      few = few;
+      foldable = foldable;
+      len = leads .len;
+      step = leads .step;
+      counts = rw (e, leads .len) (counted (labelsIn g));
+    }
 
-module _ (g : Group) (few : g .count ≤ axesLimit) (foldable : Foldable (labelsIn g)) where
-  -- no label: one count
-  still : g .count ≡ 0 → Walks (labelsIn g) (record { group = g; step = record { a = 0; b = 0; d = 0 }; len = 1; runs = 1 })
-  still z =
-      record {
-        labels = refl;
-        few = few;
-        foldable = foldable;
-        len = rw (no-label g z);
-        step = λ o. rw (no-label g z) (same o);
-        counts = rw (no-label g z);
-      }
-    where
-      same : (o : Operand) → three {X = ℕ} 0 0 0 o ≡ 0
-      same A = refl
-      same B = refl
-      same D = refl
-
-  -- a first label l
-  module _ (l : Dim) (e : labelsIn g ≡ asLabel l ∷ drop 1 (labelsIn g)) (a : l .a < 2 ^ 64) (b : l .b < 2 ^ 64) (d : l .d < 2 ^ 64) where
-    word : (o : Operand) → three (l .a) (l .b) (l .d) o ≡ wordOf 64 (asLabel l .stride o)
-    word A = sym (word-signed (l .a) a)
-    word B = sym (word-signed (l .b) b)
-    word D = sym (word-signed (l .d) d)
-
-    along : Walks (labelsIn g) (record { group = g; step = record { a = l .a; b = l .b; d = l .d }; len = l .extent; runs = size (drop 1 (labelsIn g)) })
-    along =
-        record {
-          labels = refl;
-          few = few;
-          foldable = foldable;
-          len = sym (ap (λ (x : List Label). lead x .extent) e);
-          step = λ o. word o ∙ sym (ap (λ (x : List Label). wordOf 64 (lead x .stride o)) e);
-          counts = ap size e;
-        }
-
-returns : tie.Need-returns
-returns c = still (c .before .before .args .g) (c .before .before .pre .0) (c .before .before .pre .1) (omega arith)
-
-array-copy-out-l : tie.Need-array-copy-out-l
-array-copy-out-l c = search needs
+of-requires : tie.Need-of-requires
+of-requires c κs = search needs
 
 size-from-requires : tie.Need-size-from-requires
 size-from-requires c κs = search needs
 
+returns : tie.Need-returns
+returns c =
+    let s = c .before .before .before .before in
+    let z : s .args .g .count ≡ 0 = omega arith in
+    walks (s .args .g) (c .before .before .before .of .result) 1 (s .pre .0) (s .pre .1) (c .before .before .before .of .ensures) (rw (no-label (s .args .g) z))
+
 returns-2 : tie.Need-returns-2
 returns-2 c =
     let s = c .before .before .before .before .before in
-    let len : length (s .args .g .dims) ≡ 24 = simp length-map at (s .good .0 .1 .1 .0 .1 .0 .1) in
-    let fits = strides-fit (s .args .g .dims) (s .good .0 .1 .1 .0 .0) (s .good .0 .1 .1 .0 .1 .1) (omega arith) in
-    let n : 0 < s .args .g .count = omega arith in
-    rw (c .size-from .ensures)
-    (along (s .args .g) (s .pre .0) (s .pre .1) (getD (s .args .g .dims) 0 noDim) (first (s .args .g) n) (fits .0) (fits .1) (fits .2))
+    walks (s .args .g) (c .before .before .before .before .of .result) (c .size-from .result) (s .pre .0) (s .pre .1) (c .before .before .before .before .of .ensures) (c .size-from .ensures)
 
 pub walk-of-spec : {M : Type 1} → statement M
-walk-of-spec = tie.close (tie.spec returns array-copy-out-l size-from-requires returns-2)
+walk-of-spec = tie.close (tie.spec of-requires size-from-requires returns returns-2)

@@ -3,13 +3,14 @@
 use mathlib.Core.Path.{_≡_, sym, ap, _∙_}
 use native.Mathlib.Omega.{arith}
 use Rattle.contraction.specs.declared.plan.Plan.{Plan}
-use Rattle.contraction.specs.Groups.{batch, row, column, depth, labelsIn, size}
+use Rattle.contraction.specs.Groups.{batch, row, column, depth, size}
+use Rattle.contraction.specs.Held.{labelsIn}
 use Rattle.contraction.specs.Plan.{planned}
 use Rattle.tiles.specs.declared.grid.Sizes.{Sizes}
 use Rattle.tiles.specs.declared.grid.Counts.{Counts}
 use Rattle.tiles.specs.declared.grid.Grid.{Grid}
-use Rattle.tiles.specs.Cut.{Cut}
-use Rattle.tiles.specs.Grid.{cutBy, cutIn, Fits, Counted}
+use Rattle.tiles.specs.Cut.{Cut, cutBy}
+use Rattle.tiles.specs.Grid.{cutIn, Fits, Counted}
 use Rattle.tiled.specs.Planned.{planCut, GridOf, PlanFits}
 use Rattle.tiled.proofs.call.grid_of.Statement.{statement}
 use Rattle.tiled.proofs.call.grid_of.Tie as tie

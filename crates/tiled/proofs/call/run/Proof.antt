@@ -28,7 +28,7 @@ use Rattle.tiles.specs.Setting.{walk, tilesFrom}
 use Rattle.tiled.specs.Setting.{cutOf, setting}
 use Rattle.tiled.specs.Work.{packedLast, workAfter}
 use Rattle.tiled.specs.Questions.{sizeQuestion, roomQuestion, doneQuestion}
-use Rattle.tiled.specs.Planned.{GridOf, Clear, leftIn, rightIn, planSetting}
+use Rattle.tiled.specs.Planned.{GridOf, Clear, readIn, planSetting}
 use Rattle.tiled.specs.Call.{ran, refused, gave, ranCall, tileCall}
 use Rattle.tiled.proofs.Answered.{asked, accepted, tile-early, tile-late, tile-ran}
 use Rattle.tiled.proofs.Accepted.{none-refused, plan-asks, grid-asks, grid-cut}
@@ -41,7 +41,7 @@ tiles-counted : (t n : ℕ) → length (tilesFrom t n) ≡ n
 unfolding tilesFrom
 tiles-counted t n = length-tabulate n (λ k. t + k)
 
--- n is the number that `accept_no` answered, k that of `tile_no`
+-- n is the number that `accept_refusal` answered, k that of `tile_refusal`
 module _ (c : Contraction) (z : Sizes) (a b d : List ℕ) {n : ℕ} (e : n ≡ refusal (layoutQuestions (tensors c) (lengths (lengthsOf a b d)) ++ sizeQuestion z)) (y : n ≡ 0)
     (p : Plan) (q : Planned (tensors c) p) (g : Grid) (o : GridOf p g × (g .sizes ≡ z)) (work : List ℕ) (t : ℕ)
     {k : ℕ} (r : k ≡ refusal (roomQuestion (g .sizes) (length work) ++ doneQuestion (cutIn g) t)) where
@@ -84,7 +84,7 @@ module _ (c : Contraction) (z : Sizes) (a b d : List ℕ) {n : ℕ} (e : n ≡ r
 
       all-ran : {r : ℕ} {d′ work′ : List ℕ} → r ≡ t + length (tilesFrom t count)
           → d′ ≡ walk (planSetting p (cutIn g) (c .alpha) (c .beta) a b) (tilesFrom t count) d
-          → work′ ≡ packedLast (cutIn g) (leftIn p a) (rightIn p b) t count work
+          → work′ ≡ packedLast (cutIn g) (readIn p a b) t count work
           → gave (ran r (eqb r (g .total))) d′ work′ ≡ tileCall c z (three a b d) work t budget
       unfolding ranCall
       all-ran {r} {d′} {work′} er ed ew =
@@ -97,31 +97,31 @@ module _ (c : Contraction) (z : Sizes) (a b d : List ℕ) {n : ℕ} (e : n ≡ r
           let words : d′ ≡ walk (setting c z w) (tilesFrom t count) d =
           ed ∙ ap (λ (G : Cut). walk (planSetting p G (c .alpha) (c .beta) a b) (tilesFrom t count) d) cut ∙ walk-agrees c z w ok p q t count below d in
           let packs : work′ ≡ workAfter c z w t count work =
-          ew ∙ ap (λ (G : Cut). packedLast G (leftIn p a) (rightIn p b) t count work) cut ∙ work-agrees c z w ok p q t count below work in
+          ew ∙ ap (λ (G : Cut). packedLast G (readIn p a b) t count work) cut ∙ work-agrees c z w ok p q t count below work in
           rw (done, words, packs, m, whole) (tile-ran c z w work t budget ten late x)
 
-accept-no-requires : tie.Need-accept-no-requires
-accept-no-requires c κs = search needs
+accept-refusal-requires : tie.Need-accept-refusal-requires
+accept-refusal-requires c κs = search needs
 
 returns : tie.Need-returns
 returns c =
     let x = c .before .before .before .before .before .before .args in
     tile-early (x .c) (x .z) (three (now (x .a)) (now (x .b)) (now (x .d))) (now (x .work)) (x .done) (x .budget)
-    (asked (x .c) (x .z) (now (x .a)) (now (x .b)) (now (x .d)) (c .before .accept-no .ensures)) (c .if1 .taken)
+    (asked (x .c) (x .z) (now (x .a)) (now (x .b)) (now (x .d)) (c .before .accept-refusal .ensures)) (c .if1 .taken)
 
 plan-of-requires : tie.Need-plan-of-requires
 plan-of-requires c κs =
     let x = c .before .before .before .before .before .before .args in
-    plan-asks (x .c) (x .z) (now (x .a)) (now (x .b)) (now (x .d)) (c .before .accept-no .ensures) (c .if1 .left)
+    plan-asks (x .c) (x .z) (now (x .a)) (now (x .b)) (now (x .d)) (c .before .accept-refusal .ensures) (c .if1 .left)
 
 grid-of-requires : tie.Need-grid-of-requires
 grid-of-requires c κs =
     let ten = c .before in
     let x = ten .before .before .before .before .before .before .args in
-    grid-asks (x .c) (x .z) (now (x .a)) (now (x .b)) (now (x .d)) (ten .before .accept-no .ensures) (ten .if1 .left) (c .plan-of .result) (c .plan-of .ensures)
+    grid-asks (x .c) (x .z) (now (x .a)) (now (x .b)) (now (x .d)) (ten .before .accept-refusal .ensures) (ten .if1 .left) (c .plan-of .result) (c .plan-of .ensures)
 
-tile-no-requires : tie.Need-tile-no-requires
-tile-no-requires c κs = search needs
+tile-refusal-requires : tie.Need-tile-refusal-requires
+tile-refusal-requires c κs = search needs
 
 returns-2 : tie.Need-returns-2
 returns-2 c =
@@ -129,9 +129,9 @@ returns-2 c =
     let plan = grid .before in
     let ten = plan .before in
     let x = ten .before .before .before .before .before .before .args in
-    late-no (x .c) (x .z) (now (x .a)) (now (x .b)) (now (x .d)) (ten .before .accept-no .ensures) (ten .if1 .left)
+    late-no (x .c) (x .z) (now (x .a)) (now (x .b)) (now (x .d)) (ten .before .accept-refusal .ensures) (ten .if1 .left)
     (plan .plan-of .result) (plan .plan-of .ensures) (grid .grid-of .result) (grid .grid-of .ensures) (now (x .work)) (x .done)
-    (c .before .tile-no .ensures) (x .budget) (c .if2 .taken)
+    (c .before .tile-refusal .ensures) (x .budget) (c .if2 .taken)
 
 sub-left : tie.Need-sub-left
 sub-left c =
@@ -139,9 +139,9 @@ sub-left c =
     let plan = grid .before in
     let ten = plan .before in
     let x = ten .before .before .before .before .before .before .args in
-    t-below (x .c) (x .z) (now (x .a)) (now (x .b)) (now (x .d)) (ten .before .accept-no .ensures) (ten .if1 .left)
+    t-below (x .c) (x .z) (now (x .a)) (now (x .b)) (now (x .d)) (ten .before .accept-refusal .ensures) (ten .if1 .left)
     (plan .plan-of .result) (plan .plan-of .ensures) (grid .grid-of .result) (grid .grid-of .ensures) (now (x .work)) (x .done)
-    (c .before .tile-no .ensures) (c .if2 .left)
+    (c .before .tile-refusal .ensures) (c .if2 .left)
 
 run-tiles-requires : tie.Need-run-tiles-requires
 run-tiles-requires c κs =
@@ -151,9 +151,9 @@ run-tiles-requires c κs =
     let plan = grid .before in
     let ten = plan .before in
     let x = ten .before .before .before .before .before .before .args in
-    run-asks (x .c) (x .z) (now (x .a)) (now (x .b)) (now (x .d)) (ten .before .accept-no .ensures) (ten .if1 .left)
+    run-asks (x .c) (x .z) (now (x .a)) (now (x .b)) (now (x .d)) (ten .before .accept-refusal .ensures) (ten .if1 .left)
     (plan .plan-of .result) (plan .plan-of .ensures) (grid .grid-of .result) (grid .grid-of .ensures) (now (x .work)) (x .done)
-    (all .before .tile-no .ensures) (all .if2 .left) (x .budget) (joined .if3 .count) (⊎-elim (λ w. omega arith) (λ w. omega arith) (joined .if3 .came))
+    (all .before .tile-refusal .ensures) (all .if2 .left) (x .budget) (joined .if3 .count) (⊎-elim (λ w. omega arith) (λ w. omega arith) (joined .if3 .came))
 
 same-length : tie.Need-same-length
 same-length c = search needs
@@ -170,20 +170,20 @@ returns-3 c =
     let plan = grid .before in
     let ten = plan .before in
     let x = ten .before .before .before .before .before .before .args in
-    all-ran (x .c) (x .z) (now (x .a)) (now (x .b)) (now (x .d)) (ten .before .accept-no .ensures) (ten .if1 .left)
+    all-ran (x .c) (x .z) (now (x .a)) (now (x .b)) (now (x .d)) (ten .before .accept-refusal .ensures) (ten .if1 .left)
     (plan .plan-of .result) (plan .plan-of .ensures) (grid .grid-of .result) (grid .grid-of .ensures) (now (x .work)) (x .done)
-    (all .before .tile-no .ensures) (all .if2 .left) (x .budget) (joined .if3 .count) (⊎-elim (λ w. omega arith) (λ w. omega arith) (joined .if3 .came))
+    (all .before .tile-refusal .ensures) (all .if2 .left) (x .budget) (joined .if3 .count) (⊎-elim (λ w. omega arith) (λ w. omega arith) (joined .if3 .came))
     (tiles .run-tiles .ensures .0) (tiles .run-tiles .ensures .1) (tiles .run-tiles .ensures .2)
 
 pub run-spec : {M : Type 1} → statement M
 run-spec =
     tie.close
     (tie.spec
-    accept-no-requires
+    accept-refusal-requires
     returns
     plan-of-requires
     grid-of-requires
-    tile-no-requires
+    tile-refusal-requires
     returns-2
     sub-left
     run-tiles-requires

@@ -24,13 +24,13 @@ use Rattle.tiles.specs.Progress.{State, stateAt}
 use Rattle.tiled.specs.Setting.{cutOf}
 use Rattle.tiled.specs.Questions.{sizeQuestion, doneQuestion, indexQuestion}
 use Rattle.tiled.specs.Planned.{GridOf}
-use Rattle.tiled.specs.Call.{is, unasked, stateCall}
+use Rattle.tiled.specs.Call.{is, stateRefused, stateCall}
 use Rattle.tiled.proofs.Answered.{asked, state-early, state-late, state-found}
 use Rattle.tiled.proofs.Accepted.{none-refused, plan-asks, grid-asks, grid-cut}
 use Rattle.tiled.proofs.call.state.Statement.{statement}
 use Rattle.tiled.proofs.call.state.Tie as tie
 
--- n is the number that `accept_no` answered; questions 12 and 13 are asked of the grid's cut, which is the contraction's
+-- n is the number that `accept_refusal` answered; questions 12 and 13 are asked of the grid's cut, which is the contraction's
 module _ (c : Contraction) (z : Sizes) (a b d : List ℕ) {n : ℕ} (e : n ≡ refusal (layoutQuestions (tensors c) (lengths (lengthsOf a b d)) ++ sizeQuestion z)) (y : n ≡ 0)
     (p : Plan) (q : Planned (tensors c) p) (g : Grid) (o : GridOf p g × (g .sizes ≡ z)) (t h i j : ℕ)
     {k : ℕ} (r : k ≡ refusal (doneQuestion (cutIn g) t ++ indexQuestion (cutIn g) h i j)) where
@@ -40,7 +40,7 @@ module _ (c : Contraction) (z : Sizes) (a b d : List ℕ) {n : ℕ} (e : n ≡ r
   late : k ≡ refusal (doneQuestion (cutOf c z) t ++ indexQuestion (cutOf c z) h i j)
   late = r ∙ ap (λ (G : Cut). refusal (doneQuestion G t ++ indexQuestion G h i j)) cut
 
-  late-no : (k ≡ 0 → ⊥) → unasked k ≡ stateCall c z (three a b d) t h i j
+  late-no : (k ≡ 0 → ⊥) → stateRefused k ≡ stateCall c z (three a b d) t h i j
   late-no = state-late c z (three a b d) t h i j (none-refused c z a b d e y) late
 
   -- what the grid's `state` asks
@@ -56,28 +56,28 @@ module _ (c : Contraction) (z : Sizes) (a b d : List ℕ) {n : ℕ} (e : n ≡ r
   found : {s : State} → k ≡ 0 → s ≡ stateAt (cutIn g) t h i j → is s ≡ stateCall c z (three a b d) t h i j
   found x f = ap is (f ∙ ap (λ (G : Cut). stateAt G t h i j) cut) ∙ state-found c z (three a b d) t h i j (none-refused c z a b d e y) late x
 
-accept-no-requires : tie.Need-accept-no-requires
-accept-no-requires c κs = search needs
+accept-refusal-requires : tie.Need-accept-refusal-requires
+accept-refusal-requires c κs = search needs
 
 returns : tie.Need-returns
 returns c =
     let x = c .before .before .before .before .before .args in
     state-early (x .c) (x .z) (three (now (x .a)) (now (x .b)) (now (x .d))) (x .done) (x .h) (x .i) (x .j)
-    (asked (x .c) (x .z) (now (x .a)) (now (x .b)) (now (x .d)) (c .before .accept-no .ensures)) (c .if1 .taken)
+    (asked (x .c) (x .z) (now (x .a)) (now (x .b)) (now (x .d)) (c .before .accept-refusal .ensures)) (c .if1 .taken)
 
 plan-of-requires : tie.Need-plan-of-requires
 plan-of-requires c κs =
     let x = c .before .before .before .before .before .args in
-    plan-asks (x .c) (x .z) (now (x .a)) (now (x .b)) (now (x .d)) (c .before .accept-no .ensures) (c .if1 .left)
+    plan-asks (x .c) (x .z) (now (x .a)) (now (x .b)) (now (x .d)) (c .before .accept-refusal .ensures) (c .if1 .left)
 
 grid-of-requires : tie.Need-grid-of-requires
 grid-of-requires c κs =
     let ten = c .before in
     let x = ten .before .before .before .before .before .args in
-    grid-asks (x .c) (x .z) (now (x .a)) (now (x .b)) (now (x .d)) (ten .before .accept-no .ensures) (ten .if1 .left) (c .plan-of .result) (c .plan-of .ensures)
+    grid-asks (x .c) (x .z) (now (x .a)) (now (x .b)) (now (x .d)) (ten .before .accept-refusal .ensures) (ten .if1 .left) (c .plan-of .result) (c .plan-of .ensures)
 
-state-no-requires : tie.Need-state-no-requires
-state-no-requires c κs = search needs
+state-refusal-requires : tie.Need-state-refusal-requires
+state-refusal-requires c κs = search needs
 
 returns-2 : tie.Need-returns-2
 returns-2 c =
@@ -85,9 +85,9 @@ returns-2 c =
     let plan = grid .before in
     let ten = plan .before in
     let x = ten .before .before .before .before .before .args in
-    late-no (x .c) (x .z) (now (x .a)) (now (x .b)) (now (x .d)) (ten .before .accept-no .ensures) (ten .if1 .left)
+    late-no (x .c) (x .z) (now (x .a)) (now (x .b)) (now (x .d)) (ten .before .accept-refusal .ensures) (ten .if1 .left)
     (plan .plan-of .result) (plan .plan-of .ensures) (grid .grid-of .result) (grid .grid-of .ensures) (x .done) (x .h) (x .i) (x .j)
-    (c .before .state-no .ensures) (c .if2 .taken)
+    (c .before .state-refusal .ensures) (c .if2 .taken)
 
 state-requires : tie.Need-state-requires
 state-requires c κs =
@@ -95,9 +95,9 @@ state-requires c κs =
     let plan = grid .before in
     let ten = plan .before in
     let x = ten .before .before .before .before .before .args in
-    let inside = index-inside (x .c) (x .z) (now (x .a)) (now (x .b)) (now (x .d)) (ten .before .accept-no .ensures) (ten .if1 .left)
+    let inside = index-inside (x .c) (x .z) (now (x .a)) (now (x .b)) (now (x .d)) (ten .before .accept-refusal .ensures) (ten .if1 .left)
     (plan .plan-of .result) (plan .plan-of .ensures) (grid .grid-of .result) (grid .grid-of .ensures) (x .done) (x .h) (x .i) (x .j)
-    (c .before .state-no .ensures) (c .if2 .left) in
+    (c .before .state-refusal .ensures) (c .if2 .left) in
     (grid .grid-of .ensures .0 .counted, inside .0, inside .1, inside .2)
 
 answer-of-requires : tie.Need-answer-of-requires
@@ -111,19 +111,19 @@ returns-3 c =
     let ten = plan .before in
     let x = ten .before .before .before .before .before .args in
     c .answer-of .ensures
-    ∙ found (x .c) (x .z) (now (x .a)) (now (x .b)) (now (x .d)) (ten .before .accept-no .ensures) (ten .if1 .left)
+    ∙ found (x .c) (x .z) (now (x .a)) (now (x .b)) (now (x .d)) (ten .before .accept-refusal .ensures) (ten .if1 .left)
     (plan .plan-of .result) (plan .plan-of .ensures) (grid .grid-of .result) (grid .grid-of .ensures) (x .done) (x .h) (x .i) (x .j)
-    (all .before .state-no .ensures) (all .if2 .left) (c .before .state .ensures)
+    (all .before .state-refusal .ensures) (all .if2 .left) (c .before .state .ensures)
 
 pub state-spec : {M : Type 1} → statement M
 state-spec =
     tie.close
     (tie.spec
-    accept-no-requires
+    accept-refusal-requires
     returns
     plan-of-requires
     grid-of-requires
-    state-no-requires
+    state-refusal-requires
     returns-2
     state-requires
     answer-of-requires

@@ -13,7 +13,7 @@ use Rattle.tiles.specs.Grid.{cutIn}
 use Rattle.tiles.specs.Setting.{Setting, tileStep, walk, tilesFrom}
 use Rattle.tiles.proofs.Sizes.{total-small}
 use Rattle.tiles.proofs.Closed.{length-walk, walk-next}
-use Rattle.tiled.specs.Planned.{leftIn, rightIn, planSetting, Clear}
+use Rattle.tiled.specs.Planned.{readIn, planSetting, Clear}
 use Rattle.tiled.specs.Work.{packed, packedLast}
 use Rattle.tiled.proofs.PackedWork.{packs, packed-none, packed-next, length-last}
 use Rattle.tiled.proofs.run.run_tiles.Statement.{statement}
@@ -25,7 +25,7 @@ module _ (p : Plan) (G : Cut) (alpha beta : ℕ) (a b : List ℕ) (done : ℕ) (
   S = planSetting p G alpha beta a b
 
   abbrev blocksOf : ℕ → List ℕ
-  blocksOf n = packedLast G (leftIn p a) (rightIn p b) done n work₀
+  blocksOf n = packedLast G (readIn p a b) done n work₀
 
   record Run (t : ℕ) (d work : List ℕ) : Type 0 where
     from : done ≤ t
@@ -36,15 +36,15 @@ module _ (p : Plan) (G : Cut) (alpha beta : ℕ) (a b : List ℕ) (done : ℕ) (
   same-d {t} r = ap length (r .words) ∙ length-walk S (tilesFrom done (t - done)) d₀
 
   same-work : {t : ℕ} {d work : List ℕ} → packs G ≤ length work₀ → Run t d work → length work ≡ length work₀
-  same-work {t} h r = ap length (r .blocks) ∙ length-last G (leftIn p a) (rightIn p b) done (t - done) work₀ h
+  same-work {t} h r = ap length (r .blocks) ∙ length-last G (readIn p a b) done (t - done) work₀ h
 
   none : Run done d₀ work₀
   unfolding tilesFrom walk
   none =
       let e : done - done ≡ 0 = omega arith in
-      record { from = omega arith; words = rw e; blocks = rw e (sym (packed-none G (leftIn p a) (rightIn p b) done work₀)) }
+      record { from = omega arith; words = rw e; blocks = rw e (sym (packed-none G (readIn p a b) done work₀)) }
 
-  next : {t : ℕ} {d work d′ work′ : List ℕ} → Run t d work → d′ ≡ tileStep S t d → work′ ≡ packed G (leftIn p a) (rightIn p b) t work → Run (t + 1) d′ work′
+  next : {t : ℕ} {d work d′ work′ : List ℕ} → Run t d work → d′ ≡ tileStep S t d → work′ ≡ packed G (readIn p a b) t work → Run (t + 1) d′ work′
   next {t} r e f =
       let n = t - done in
       let h : done + n ≡ t = omega (arith, r .from) in
@@ -57,9 +57,9 @@ module _ (p : Plan) (G : Cut) (alpha beta : ℕ) (a b : List ℕ) (done : ℕ) (
             ∙ sym (walk-next S done n d₀)
             ∙ ap (λ (m : ℕ). walk S (tilesFrom done m) d₀) k;
         blocks =
-            f ∙ ap (packed G (leftIn p a) (rightIn p b) t) (r .blocks)
-            ∙ ap (λ (m : ℕ). packed G (leftIn p a) (rightIn p b) m (blocksOf n)) (sym h)
-            ∙ packed-next G (leftIn p a) (rightIn p b) done n work₀
+            f ∙ ap (packed G (readIn p a b) t) (r .blocks)
+            ∙ ap (λ (m : ℕ). packed G (readIn p a b) m (blocksOf n)) (sym h)
+            ∙ packed-next G (readIn p a b) done n work₀
             ∙ ap blocksOf k;
       }
 

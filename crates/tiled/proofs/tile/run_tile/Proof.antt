@@ -2,12 +2,13 @@
 -- at the front of the work slice and B's right behind it, and the kernel's sums of them are the panel's, stored at the tile's places.
 -- Assumes nothing.
 use mathlib.Core.Path.{ap, _∙_}
-use native.Mathlib.Nat.{le-trans, mul-le-mul}
+use native.Mathlib.Nat.{mul-le-mul}
 use native.Mathlib.Omega.{arith}
 use borrow.Author.Needs.{needs}
 use lib.ListN.{length}
 use Rattle.contraction.specs.Operands.{A, B, D}
-use Rattle.tiled.proofs.TileSteps.{stepped, rows-few, cols-few, filled-few, places-a, places-b, places-d, room-behind, tile-packed, multiplied}
+use Rattle.tiled.specs.Side.{left, right}
+use Rattle.tiled.proofs.TileSteps.{stepped, side-few, filled-few, side-places, places-d, room-behind, tile-packed, multiplied}
 use Rattle.tiled.proofs.PackedWork.{length-packed}
 use Rattle.tiled.proofs.tile.run_tile.Statement.{statement}
 use Rattle.tiled.proofs.tile.run_tile.Tie as tie
@@ -15,28 +16,34 @@ use Rattle.tiled.proofs.tile.run_tile.Tie as tie
 of-requires : tie.Need-of-requires
 of-requires c κs = search needs
 
+cast-rows : tie.Need-cast-rows
+cast-rows c = search needs
+
+cast-cols : tie.Need-cast-cols
+cast-cols c = search needs
+
 cast-depth : tie.Need-cast-depth
 cast-depth c = search needs
 
-cast-pack : tie.Need-cast-pack
-cast-pack c = search needs
-
-cast-pack-2 : tie.Need-cast-pack-2
-cast-pack-2 c = search needs
+mul-behind : tie.Need-mul-behind
+mul-behind c = let f = c .before .before .before .before .before .before .before .before .before .pre .0 .counted .fits in omega (arith, mul-le-mul (f .rows-few) (f .depth-few))
 
 pack-requires : tie.Need-pack-requires
 pack-requires c κs =
-    let o = c .before .before .before .before .before .before .before .before .before .before .before in
+    let o = c .before .before .before .before .before .before .before .before in
     let q = o .before .before .before .before .before .pre in
     let f = q .0 .counted .fits in
     let t = o .of .ensures in
-    (rows-few t A, le-trans (rows-few t A) (f .rows-few), f .rows-few, filled-few t, f .depth-few, stepped (t .rows) A, places-a t f (q .1) (q .2), omega (arith, q .3))
+    record {
+      lane = record { fits = side-few t left A; narrow = f .rows-few; stepped = stepped (t .blocks left) A };
+      lanes = filled-few t;
+      shallow = f .depth-few;
+      reads = side-places t f (q .1) (q .2) left;
+      room = omega (arith, q .3);
+    }
 
 mul-pack : tie.Need-mul-pack
-mul-pack c = let f = c .before .before .before .before .before .before .before .before .before .before .before .before .before .before .before .before .before .before .before .before .before .pre .0 .counted .fits in omega (arith, mul-le-mul (f .rows-few) (f .depth-few))
-
-mul-pack-2 : tie.Need-mul-pack-2
-mul-pack-2 c = let f = c .before .before .before .before .before .before .before .before .before .before .before .before .before .before .before .before .before .before .before .before .before .pre .0 .counted .fits in omega (arith, mul-le-mul (f .rows-few) (f .depth-few))
+mul-pack c = let f = c .before .before .before .before .before .before .before .before .before .before .before .before .before .before .before .before .before .before .before .pre .0 .counted .fits in omega (arith, mul-le-mul (f .rows-few) (f .depth-few))
 
 sub-pack : tie.Need-sub-pack
 sub-pack c = search needs
@@ -49,45 +56,38 @@ part-pack-end c = search needs
 
 pack-requires-2 : tie.Need-pack-requires-2
 pack-requires-2 c κs =
-    let k = c .before .before .before .before .before in
-    let o = k .before .before .before .before .before .before .before .before .before .before .before .before in
-    let s = o .before .before .before .before .before in
-    let q = s .pre in
-    let f = q .0 .counted .fits in
-    let t = o .of .ensures in (
-      cols-few t B,
-      le-trans (cols-few t B) (f .cols-few),
-      f .cols-few,
-      filled-few t,
-      f .depth-few,
-      stepped (t .cols) B,
-      places-b t f (q .1) (q .2),
-      room-behind t (s .args .a .now) (s .args .work .now) (k .pack .ensures) (q .3),
-    )
-
-multiply-requires : tie.Need-multiply-requires
-multiply-requires c κs =
-    let l = c .before .before .before .before in
-    let k = l .before .before .before .before .before .before in
-    let o = k .before .before .before .before .before .before .before .before .before .before .before .before in
+    let k = c .before .before .before .before .before .before in
+    let o = k .before .before .before .before .before .before .before .before .before in
     let s = o .before .before .before .before .before in
     let q = s .pre in
     let f = q .0 .counted .fits in
     let t = o .of .ensures in
-    let e = tile-packed t (s .args .a .now) (s .args .b .now) (s .args .work .now) (k .pack .ensures) (l .pack2 .ensures) in (
-      rows-few t D,
-      le-trans (rows-few t D) (f .rows-few),
-      f .rows-few,
-      cols-few t D,
-      le-trans (cols-few t D) (f .cols-few),
-      f .cols-few,
-      filled-few t,
-      f .depth-few,
-      stepped (t .rows) D,
-      stepped (t .cols) D,
-      places-d t f (q .1) (q .2),
-      omega (arith, q .3, ap length e ∙ length-packed _ _ _ _ (s .args .work .now) (q .3)),
-    )
+    record {
+      lane = record { fits = side-few t right B; narrow = f .cols-few; stepped = stepped (t .blocks right) B };
+      lanes = filled-few t;
+      shallow = f .depth-few;
+      reads = side-places t f (q .1) (q .2) right;
+      room = room-behind t (s .args .a .now) (s .args .work .now) (k .pack .ensures) (q .3);
+    }
+
+multiply-requires : tie.Need-multiply-requires
+multiply-requires c κs =
+    let l = c .before .before .before .before .before .before in
+    let k = l .before .before .before .before .before .before .before in
+    let o = k .before .before .before .before .before .before .before .before .before in
+    let s = o .before .before .before .before .before in
+    let q = s .pre in
+    let f = q .0 .counted .fits in
+    let t = o .of .ensures in
+    let e = tile-packed t (s .args .a .now) (s .args .b .now) (s .args .work .now) (k .pack .ensures) (l .pack2 .ensures) in
+    record {
+      row = record { fits = side-few t left D; narrow = f .rows-few; stepped = stepped (t .blocks left) D };
+      column = record { fits = side-few t right D; narrow = f .cols-few; stepped = stepped (t .blocks right) D };
+      lanes = filled-few t;
+      shallow = f .depth-few;
+      writes = places-d t f (q .1) (q .2);
+      room = omega (arith, q .3, ap length e ∙ length-packed _ _ _ (s .args .work .now) (q .3));
+    }
 
 same-length : tie.Need-same-length
 same-length c = search needs
@@ -98,9 +98,9 @@ same-length-2 c = search needs
 returns : tie.Need-returns
 returns c =
     let m = c .before .before in
-    let l = m .before .before .before .before .before in
-    let k = l .before .before .before .before .before .before in
-    let o = k .before .before .before .before .before .before .before .before .before .before .before .before in
+    let l = m .before .before .before .before .before .before .before in
+    let k = l .before .before .before .before .before .before .before in
+    let o = k .before .before .before .before .before .before .before .before .before in
     let s = o .before .before .before .before .before .args in
     let t = o .of .ensures in
     let e = tile-packed t (s .a .now) (s .b .now) (s .work .now) (k .pack .ensures) (l .pack2 .ensures) in
@@ -111,12 +111,12 @@ run-tile-spec =
     tie.close
     (tie.spec
     of-requires
+    cast-rows
+    cast-cols
     cast-depth
-    cast-pack
-    cast-pack-2
+    mul-behind
     pack-requires
     mul-pack
-    mul-pack-2
     sub-pack
     part-pack-start
     part-pack-end

@@ -1,7 +1,7 @@
 -- `Group::none` meets its contract: no place is in use.
 -- Assumes nothing.
 use mathlib.Core.Path.{refl}
-use Rattle.contraction.specs.Groups.{labelsIn}
+use Rattle.contraction.specs.Held.{labelsIn}
 use Rattle.contraction.proofs.groups.Group.none.Statement.{statement}
 use Rattle.contraction.proofs.groups.Group.none.Tie as tie
 

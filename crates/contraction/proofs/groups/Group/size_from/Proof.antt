@@ -12,7 +12,8 @@ use Rattle.words.proofs.Tabulate.{from, from-end, from-before}
 use Rattle.layout.specs.Limits.{productLimit}
 use Rattle.contraction.specs.declared.groups.Dim.{Dim}
 use Rattle.contraction.specs.declared.groups.Group.{Group}
-use Rattle.contraction.specs.Groups.{Label, size, asLabel, noDim, labelsIn}
+use Rattle.contraction.specs.Groups.{Label, size}
+use Rattle.contraction.specs.Held.{asLabel, noDim, labelsIn}
 use Rattle.contraction.specs.Ready.{Foldable}
 use Rattle.contraction.proofs.groups.Group.size_from.Statement.{statement}
 use Rattle.contraction.proofs.groups.Group.size_from.Tie as tie

@@ -10,7 +10,8 @@ use Rattle.words.specs.Words.{wordOf}
 use Rattle.words.proofs.Tabulate.{from, from-end, from-next}
 use Rattle.contraction.specs.declared.groups.Dim.{Dim}
 use Rattle.contraction.specs.declared.offsets.Offsets.{Offsets}
-use Rattle.contraction.specs.Groups.{Label, asLabel, noDim, labelsIn}
+use Rattle.contraction.specs.Groups.{Label}
+use Rattle.contraction.specs.Held.{asLabel, noDim, labelsIn}
 use Rattle.contraction.specs.Offsets.{wordsIn, Words}
 use Rattle.contraction.proofs.OffsetWords.{Partway, offsets-start, extent-pos, offsets-turn, offsets-end}
 use Rattle.contraction.proofs.offsets.Offsets.of.Statement.{statement}

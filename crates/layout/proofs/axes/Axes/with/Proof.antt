@@ -5,20 +5,19 @@ use mathlib.Core.Path.{_≡_, refl, sym, _∙_}
 use mathlib.Core.List.{_++_, append-nil, append-assoc}
 use Prim.Native.Nat.{_≤_, _+_, _-_}
 use native.Mathlib.Nat.{add-zero, add-assoc}
-use native.Mathlib.Numerals.{add-one}
 use native.Mathlib.Omega.{arith}
 use lib.ListN.{length, getD, length-set, length-map}
-use Rattle.words.specs.Lists.{tabulate}
-use Rattle.words.proofs.Tabulate.{tabulate-push, tabulate-suc}
+use Rattle.words.specs.Lists.{firstOf}
+use Rattle.words.proofs.Tabulate.{firstOf-push, firstOf-suc}
 use Rattle.layout.specs.Layout.{noAxis, axes}
-use Rattle.layout.specs.Labels.{listed}
+use Rattle.layout.specs.Checked.{listed}
 use Rattle.layout.proofs.axes.Axes.with.Statement.{statement}
 use Rattle.layout.proofs.axes.Axes.with.Tie as tie
 
 abbrev Inv-loop : tie.InvT-loop
 Inv-loop start rank from items₀ i₀ items i =
     (i ≤ rank) × (length items ≡ 24)
-    × (tabulate (start + i) (λ k. getD items k noAxis) ≡ tabulate start (λ k. getD items₀ k noAxis) ++ tabulate i (λ k. getD from k noAxis))
+    × (firstOf (start + i) noAxis items ≡ firstOf start noAxis items₀ ++ firstOf i noAxis from)
 
 abbrev μ-loop : tie.MeasureT-loop
 μ-loop start rank from items₀ i₀ items i = rank - i
@@ -27,7 +26,7 @@ loop-holds : tie.Need-loop-holds Inv-loop μ-loop
 loop-holds c =
     let self = c .before .before .args .self in
     let len : length (self .items) ≡ 24 = rw length-map at (c .before .before .good .0 .1 .1 .0 .1 .0 .1) in
-    (omega arith, len, rw (add-zero (self .count)) (sym (append-nil (tabulate (self .count) (λ k. getD (self .items) k noAxis)))))
+    (omega arith, len, rw (add-zero (self .count)) (sym (append-nil (firstOf (self .count) noAxis (self .items)))))
 
 mul-items : tie.Need-mul-items Inv-loop μ-loop
 mul-items c = omega arith
@@ -58,7 +57,7 @@ loop-again c =
     let x = getD (a .l .axes) (l .i) noAxis in (
       omega arith,
       length-set (l .items) (start + l .i) x ∙ l .inv .1,
-      rw (← (add-assoc start (l .i) 1), tabulate-push noAxis (l .items) (start + l .i) x (omega (arith, l .inv .1)), l .inv .2, add-one (l .i), tabulate-suc (l .i), append-assoc),
+      rw (← (add-assoc start (l .i) 1), firstOf-push noAxis (l .items) (start + l .i) x (omega (arith, l .inv .1)), l .inv .2, firstOf-suc (l .i) noAxis (a .l .axes), append-assoc),
     )
 
 add-t18 : tie.Need-add-t18 Inv-loop μ-loop

@@ -2,7 +2,7 @@
 -- Assumes nothing.
 use mathlib.Core.Path.{refl}
 use native.Mathlib.Omega.{arith}
-use Rattle.layout.specs.Letters.{spelled}
+use Rattle.layout.specs.LetterSets.{spelled}
 use Rattle.layout.proofs.Bits.{has-none}
 use Rattle.layout.proofs.letters.Letters.none.Statement.{statement}
 use Rattle.layout.proofs.letters.Letters.none.Tie as tie

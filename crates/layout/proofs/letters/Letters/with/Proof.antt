@@ -8,9 +8,9 @@ use borrow.Author.Needs.{needs}
 use lib.Dec.{eqb}
 use lib.ListN.{length, length-map}
 use Rattle.words.specs.Lists.{member}
-use Rattle.words.proofs.Tabulate.{tabulate-push}
+use Rattle.words.proofs.Tabulate.{firstOf-push}
 use Rattle.words.proofs.Lists.{member-append}
-use Rattle.layout.specs.Letters.{spelled}
+use Rattle.layout.specs.LetterSets.{spelled}
 use Rattle.layout.proofs.Spelling.{same-letter}
 use Rattle.layout.proofs.letters.Letters.with.Statement.{statement}
 use Rattle.layout.proofs.letters.Letters.with.Tie as tie
@@ -44,7 +44,7 @@ returns-2 c =
     let len : length (a .self .letters) ≡ 24 = rw length-map at (c .before .before .before .before .good .0 .1 .1 .0 .1 .0 .1) in
     rw m (
       record {
-        spells = tabulate-push 0 (a .self .letters) (a .self .count) (a .c) (omega arith);
+        spells = firstOf-push 0 (a .self .letters) (a .self .count) (a .c) (omega arith);
         sets =
             λ d h.
             c .insert .ensures d

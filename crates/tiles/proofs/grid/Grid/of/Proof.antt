@@ -7,8 +7,8 @@ use Prim.Native.Nat.{ℕ, _*_, _≤_}
 use native.Mathlib.Omega.{arith}
 use borrow.Author.Needs.{needs}
 use Rattle.layout.specs.Limits.{productLimit}
-use Rattle.tiles.specs.Cut.{Cut, MB, NB, KB, total}
-use Rattle.tiles.specs.Grid.{cutBy, Fits}
+use Rattle.tiles.specs.Cut.{Cut, cutBy, MB, NB, KB, total}
+use Rattle.tiles.specs.Grid.{Fits}
 use Rattle.tiles.proofs.Sizes.{M-small, N-small, K-small, columns-small, strips-small, total-small}
 use Rattle.tiles.proofs.grid.Grid.of.Statement.{statement}
 use Rattle.tiles.proofs.grid.Grid.of.Tie as tie

@@ -1,0 +1,6 @@
+//! What the engine is measured beside, all in safe Rust.
+
+pub mod nests;
+pub mod odometer;
+pub mod odometer_forms;
+pub mod packed;

@@ -1,0 +1,53 @@
+//! How long the engine takes, beside other ways to contract the same words in the same run. Prints tables, puts them
+//! into docs/PERFORMANCE.md and draws the plots beside it. Ends with status 1 where a required ratio is missed, and
+//! panics where two contenders leave different words.
+
+mod clock;
+mod contenders;
+mod contraction;
+mod measured;
+mod shapes;
+mod shown;
+
+use measured::contest::{Case, Times};
+use measured::required::Required;
+use measured::{calls, cases, forms, one_tile, required, scaling};
+use shown::{bars, document, lines, machine, tables};
+use std::process::ExitCode;
+
+fn main() -> ExitCode {
+    let (cases, one_tile, scaling) = (measure(cases::all()), one_tile::all(), measure(scaling::all()));
+    let (calls, forms) = (calls::all(), forms::measure());
+    let required = required::all(&cases, &one_tile);
+    let sections = [
+        ("Required ratios", tables::required(&required)),
+        ("Cases", tables::cases(&cases) + "\n" + &tables::layouts(&cases)),
+        ("Scaling", tables::scaling(&scaling)),
+        ("One tile", tables::one_tile(&one_tile)),
+        ("Calls", tables::calls(&calls)),
+        ("Forms of the odometer", tables::forms(&forms)),
+        ("Machine", machine::machine()),
+    ];
+    let text: String = sections.iter().map(|(title, section)| format!("\n### {title}\n\n{section}")).collect();
+    println!("{text}");
+    document::write_tables(&(text + "\n"));
+    document::write_plot("speed.svg", &bars::plot(&cases));
+    document::write_plot("scaling.svg", &lines::plot(&scaling));
+    status(&required)
+}
+
+fn measure(cases: Vec<Case>) -> Vec<(Case, Times)> {
+    let timed = |case: Case| {
+        let times = case.measure();
+        (case, times)
+    };
+    cases.into_iter().map(timed).collect()
+}
+
+fn status(required: &[Required]) -> ExitCode {
+    if required.iter().all(Required::is_met) {
+        ExitCode::SUCCESS
+    } else {
+        ExitCode::FAILURE
+    }
+}

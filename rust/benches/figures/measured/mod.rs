@@ -1,0 +1,9 @@
+//! What is measured, and the times.
+
+pub mod calls;
+pub mod cases;
+pub mod contest;
+pub mod forms;
+pub mod one_tile;
+pub mod required;
+pub mod scaling;

@@ -1,0 +1,9 @@
+//! How the figures are shown: tables, plots, and the document that has them.
+
+pub mod bars;
+pub mod document;
+pub mod lines;
+pub mod machine;
+pub mod svg;
+pub mod tables;
+pub mod text;

@@ -1,0 +1,115 @@
+//! What a run covered. A class that stays empty makes the run fail.
+
+pub mod document;
+mod tables;
+
+use crate::common::case::Outcome;
+use crate::common::request::{work_needed, Ran, Request};
+use crate::common::seen::Seen;
+use std::collections::BTreeSet;
+pub use tables::text;
+
+/// How often each number was the answer, 0 where the call was accepted.
+pub type Answers = [usize; 14];
+
+/// The numbers that each call can answer.
+pub const PLAIN: [usize; 10] = [0, 1, 2, 3, 4, 5, 6, 7, 8, 9];
+pub const TILE: [usize; 13] = [0, 1, 2, 3, 4, 5, 6, 7, 8, 9, 10, 11, 12];
+pub const STATE: [usize; 13] = [0, 1, 2, 3, 4, 5, 6, 7, 8, 9, 10, 12, 13];
+/// The numbers by which the program can refuse a file.
+pub const FILE: [usize; 14] = [1, 3, 4, 5, 6, 7, 8, 9, 10, 12, 20, 21, 22, 23];
+
+#[derive(Default)]
+pub struct Figures {
+    pub plain: Answers,
+    pub tile: Answers,
+    pub state: Answers,
+    /// What the lists of calls had.
+    pub calls: Seen,
+    /// What the accepted contractions had.
+    pub features: Seen,
+    /// How the tiles of the lists cut them.
+    pub cuts: Seen,
+    /// How job files were damaged.
+    pub damages: Seen,
+    /// What the program answered.
+    pub texts: Seen,
+    /// The bytes that were changed alone: number of the file before the damage, and place.
+    pub places: BTreeSet<(usize, usize)>,
+    /// Job files whose sums are too long for the model.
+    pub left_out: usize,
+}
+
+impl Figures {
+    pub fn note_plain(&mut self, found: &Outcome) {
+        self.plain[found.answer as usize] += 1;
+        self.calls.add("words of D compared", found.words.len());
+    }
+
+    pub fn note_state(&mut self, found: Result<u32, u32>) {
+        self.state[found.err().unwrap_or(0) as usize] += 1;
+        for (number, name) in ["old", "part", "final"].iter().enumerate() {
+            self.calls.note(&format!("states that were {name}"), found == Ok(number as u32));
+        }
+    }
+
+    pub fn note_run(&mut self, r: &Request, found: &Ran, total: u64) {
+        let (calls, needed) = (&mut self.calls, work_needed(r.sizes));
+        self.tile[found.answer as usize] += 1;
+        calls.add("words of D compared", found.words.len());
+        calls.add("words of work compared", found.work.len());
+        calls.note("tile calls whose work slice was one word too short", r.work.len() as u128 + 1 == needed);
+        if found.answer != 0 {
+            return;
+        }
+        let left = total - r.done;
+        calls.add("tiles run", (found.done - r.done) as usize);
+        calls.note("tile calls with budget 0", r.budget == 0);
+        calls.note("tile calls with budget 1", r.budget == 1);
+        calls.note("tile calls with a budget below what was left", (2..left).contains(&r.budget));
+        calls.note("tile calls with a budget of what was left", r.budget == left && left > 0);
+        calls.note("tile calls with a budget over what was left", r.budget > left && left > 0);
+        calls.note("tile calls with budget 2^64 - 1", r.budget == u64::MAX);
+        calls.note("tile calls after the last tile", left == 0);
+        calls.note("tile calls with an exact work slice", r.work.len() as u128 == needed);
+        calls.note("tile calls with a longer work slice", r.work.len() as u128 > needed);
+    }
+
+    pub fn add(&mut self, other: &Self) {
+        for (own, more) in [(&mut self.plain, &other.plain), (&mut self.tile, &other.tile)] {
+            add_answers(own, more);
+        }
+        add_answers(&mut self.state, &other.state);
+        add_seen(&mut self.calls, &other.calls);
+        add_seen(&mut self.features, &other.features);
+        add_seen(&mut self.cuts, &other.cuts);
+        add_seen(&mut self.damages, &other.damages);
+        add_seen(&mut self.texts, &other.texts);
+        self.places.extend(&other.places);
+        self.left_out += other.left_out;
+    }
+
+    /// The classes that have to be filled and are not.
+    pub fn empty(&self) -> Vec<String> {
+        let by_number = |call: &str, answers: &Answers, numbers: &[usize]| -> Vec<String> {
+            let empty = numbers.iter().filter(|number| answers[**number] == 0);
+            empty.map(|number| format!("{call} answered by {number}")).collect()
+        };
+        let seen = [&self.calls, &self.features, &self.cuts, &self.damages, &self.texts];
+        let by_name = seen.into_iter().flat_map(Seen::counts).filter(|(_, count)| *count == 0);
+        let answers = [
+            by_number("plain calls", &self.plain, &PLAIN),
+            by_number("tile calls", &self.tile, &TILE),
+            by_number("state questions", &self.state, &STATE),
+        ];
+        answers.into_iter().flatten().chain(by_name.map(|(name, _)| name.to_string())).collect()
+    }
+}
+
+fn add_answers(own: &mut Answers, more: &Answers) {
+    own.iter_mut().zip(more).for_each(|(own, more)| *own += more);
+}
+
+fn add_seen(own: &mut Seen, more: &Seen) {
+    more.counts().for_each(|(name, count)| own.add(name, count));
+}

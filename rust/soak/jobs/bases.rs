@@ -1,0 +1,63 @@
+//! The job files that are damaged: the examples, jobs that one question refuses, and random ones.
+
+use crate::common::broken::{sound_request, ways};
+use crate::common::flaws::Records;
+use crate::common::job::Job;
+use crate::common::job_make::accepted_job;
+use crate::common::job_model::{answer, read};
+use crate::common::make::Kind;
+use crate::common::rng::Rng;
+use std::fs;
+use std::path::{Path, PathBuf};
+
+/// The most bytes of a random job.
+const LENGTH: usize = 300;
+
+/// Few labels, and so many that ranks reach 8.
+const FEW: Kind = Kind { labels: 5, extents: &[1, 2, 2, 3], terms: 24, aligned: false };
+const MANY: Kind = Kind { labels: 20, extents: &[1, 1, 1, 2], terms: 8, aligned: false };
+
+/// What stands in an answer with words of every sort.
+const ALL_LETTERS: [&str; 4] = [" o\n", " p\n", " f\n", " -\n"];
+
+pub fn bases(rng: &mut Rng) -> Vec<Records> {
+    let mut bases = examples();
+    bases.extend([3, 4, 5, 6, 7, 8, 9, 10, 12].map(|number| refused(rng, number)));
+    bases.extend([FEW, FEW, FEW, MANY, MANY].map(|kind| random(rng, &kind, &[])));
+    bases.extend([FEW, FEW].map(|kind| random(rng, &kind, &ALL_LETTERS)));
+    bases
+}
+
+/// The records of each example.
+fn examples() -> Vec<Records> {
+    let folder = Path::new(env!("CARGO_MANIFEST_DIR")).join("../examples/jobs");
+    let entries = fs::read_dir(&folder).unwrap_or_else(|error| panic!("{}: {error}", folder.display()));
+    let mut paths: Vec<PathBuf> = entries.map(|entry| entry.expect("an entry of the folder").path()).collect();
+    paths.retain(|path| path.extension().is_some_and(|extension| extension == "job"));
+    paths.sort();
+    assert!(!paths.is_empty(), "no job files in {}", folder.display());
+    paths.iter().map(|path| records(&fs::read(path).expect("an example"))).collect()
+}
+
+fn records(file: &[u8]) -> Records {
+    let records = read(file).expect("a whole job").records();
+    assert!(records.concat() == file, "read otherwise than it was written");
+    records
+}
+
+/// A job that this question refuses, in one of its ways.
+fn refused(rng: &mut Rng, number: u32) -> Records {
+    let (mut request, ways) = (sound_request(), ways(number));
+    ways[rng.below(ways.len())](&mut request);
+    Job::of(&request).records()
+}
+
+/// A short random job whose answer has all of these.
+fn random(rng: &mut Rng, kind: &Kind, wanted: &[&str]) -> Records {
+    let fits = |file: &[u8]| {
+        let text = answer(file);
+        file.len() <= LENGTH && wanted.iter().all(|part| text.contains(part))
+    };
+    let mut jobs = std::iter::repeat_with(|| accepted_job(rng, kind).records());
+    jobs.find(|records| fits(&records.concat())).expect("a job that fits")
+}

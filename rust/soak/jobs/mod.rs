@@ -1,0 +1,82 @@
+//! Damaged job files, on which the program is compared with its model.
+
+mod bases;
+mod mutants;
+mod random;
+
+use crate::common::flaws::Records;
+use crate::common::job_model::{answer, is_long};
+use crate::common::program::{run, same};
+use crate::common::rng::Rng;
+use crate::common::temp_file::TempFile;
+use crate::figures::{Figures, FILE};
+use mutants::{damaged, damaged_at_random, undamaged, Damage, Mutant};
+
+/// The files of a run.
+pub struct Files {
+    pub bases: Vec<Records>,
+    pub mutants: Vec<Mutant>,
+}
+
+impl Files {
+    /// The files as they are; then all damages that are not chosen at random, and as many random ones as make this
+    /// count, in a random order. The first part is kept where less is asked for.
+    pub fn of(rng: &mut Rng, count: usize, kept: usize) -> Self {
+        let bases = bases::bases(rng);
+        let mut mutants: Vec<Mutant> = (0..bases.len()).map(|base| undamaged(base, &bases[base])).collect();
+        mutants.extend((0..bases.len()).flat_map(|base| damaged(base, &bases[base], rng)).collect::<Vec<_>>());
+        assert!(mutants.len() < count, "{} files before any random damage", mutants.len());
+        for _ in mutants.len()..count {
+            let base = rng.below(bases.len());
+            mutants.push(damaged_at_random(base, &bases[base], rng));
+        }
+        rng.shuffle(&mut mutants[bases.len()..]);
+        mutants.truncate(kept);
+        Self { bases, mutants }
+    }
+
+    /// How many bytes the files have before any damage.
+    pub fn bytes(&self) -> usize {
+        self.bases.iter().flatten().map(Vec::len).sum()
+    }
+}
+
+/// The classes that the files of a run have to fill.
+pub fn expect_all(figures: &mut Figures) {
+    Damage::NAMES.iter().for_each(|name| figures.damages.add(name, 0));
+    FILE.iter().for_each(|number| figures.texts.add(&format!("refused {number}"), 0));
+    ["accepted", "words marked o", "words marked p", "words marked f", "words marked -"]
+        .iter()
+        .for_each(|name| figures.texts.add(name, 0));
+}
+
+/// Runs the program on a file, at standard input or by its name, and compares all that it prints with the model.
+pub fn check(mutant: &Mutant, by_name: bool, figures: &mut Figures) {
+    let file = &mutant.bytes;
+    if is_long(file) {
+        figures.left_out += 1;
+        return;
+    }
+    let expected = answer(file);
+    if by_name {
+        let held = TempFile::new("soak.job", file);
+        same(file, &run(&[held.path().as_os_str()], &[]), &expected);
+    } else {
+        same(file, &run(&[], &[file]), &expected);
+    }
+    note(mutant, &expected, figures);
+}
+
+fn note(mutant: &Mutant, text: &str, figures: &mut Figures) {
+    figures.damages.add(mutant.damage.name(), 1);
+    if let Damage::Changed(place) = mutant.damage {
+        figures.places.insert((mutant.base, place));
+    }
+    let mut lines = text.lines();
+    let first = lines.next().unwrap_or_default();
+    figures.texts.add(if first.starts_with("tiles ") { "accepted" } else { first }, 1);
+    for line in lines {
+        let letter = line.rsplit(' ').next().unwrap_or_default();
+        figures.texts.add(&format!("words marked {letter}"), 1);
+    }
+}
