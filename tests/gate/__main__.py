@@ -1,4 +1,4 @@
-"""Checks the repository's own files: python3 tests/gate, and once rt has tried the must-fail edits, python3 tests/gate refusals
+"""Checks the repository's own files: python3 tests/gate, and once rt has proved the crates and tried the must-fail edits, python3 tests/gate walks and refusals
 
 Prints a line `ok NAME` for each check. At the first that fails there is a message on standard error and status 1.
 """
@@ -11,15 +11,15 @@ sys.path.insert(1, os.path.dirname(FOLDER))
 
 from checking import modules_of, status_of  # noqa: E402
 
-AFTER = ["refusals"]  # what needs the logs of rt
+AFTER = ["refusals", "walks"]  # what needs what rt left
 
 
 def main():
-    if sys.argv[1:] == AFTER:
-        return status_of(AFTER)
+    if len(sys.argv) == 2 and sys.argv[1] in AFTER:
+        return status_of(sys.argv[1:])
     if len(sys.argv) == 1:
         return status_of([name for name in modules_of(FOLDER) if name not in AFTER])
-    print("usage: python3 tests/gate [refusals]", file=sys.stderr)
+    print("usage: python3 tests/gate [refusals | walks]", file=sys.stderr)
     return 2
 
 

@@ -15,7 +15,7 @@ from files import ROOT, contents, listed_crates
 CALLS = [
     ("crates/layout/src/layout.rt", "new"),
     ("crates/contraction/src/contraction.rt", "new"),
-    ("crates/contraction/src/questions.rt", "first_no"),
+    ("crates/questions/src/questions.rt", "first_no"),
     ("crates/plain/src/call.rt", "contract"),
     ("crates/tiled/src/call.rt", "run"),
     ("crates/tiled/src/call.rt", "state"),
@@ -25,8 +25,8 @@ CALLS = [
 STATEMENTS = [
     "crates/plain/specs/Demand.antt",
     "crates/tiled/specs/Demand.antt",
-    "crates/contraction/specs/Edges.antt",
-    "crates/job/specs/Letters.antt",
+    "crates/edges/specs/Edges.antt",
+    "crates/states/specs/Letters.antt",
 ]
 USE = re.compile(r"^(?:ghost )?use Rattle·(\w+)(?:·specs)?\.specs\.([\w.]+)\.\{([^}]*)\}", re.M)
 START = re.compile(r" *(?:(?:(?:pub|abbrev|unfoldable|record|data) +)+|(?=\S+ : ))([^\s:]+)")

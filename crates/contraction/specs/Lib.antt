@@ -1,14 +1,2 @@
+pub mod Lists
 pub mod Operands
-pub mod Groups
-pub mod Fold
-pub mod Index
-pub mod Questions
-pub mod Meaning
-pub mod Block
-pub mod Edges
-pub mod Held
-pub mod Ready
-pub mod Sets
-pub mod Offsets
-pub mod Lead
-pub mod Plan

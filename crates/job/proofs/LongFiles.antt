@@ -12,13 +12,14 @@ use lib.ListN.{length, getD, take}
 use lib.Seq.{getD-take, length-take-le}
 use borrow.Author.Tests.{leb-true, le-leb, ne-eqb, eqb-false, not-true}
 use Rattle.words.proofs.Tabulate.{tabulate-ext}
-use Rattle.layout.specs.Limits.{rankLimit, jobLimit, fileRoom}
-use Rattle.job.specs.Bytes.{has, little, numbers}
-use Rattle.job.specs.Marks.{letterA, letterB, letterD, kindOf, isLayout, wordWidth, isGo}
-use Rattle.job.specs.Format.{Reading, got, refused, check, then, Tensor, kindAt, layoutAt, goAt}
-use Rattle.job.specs.Format.{layoutRecord, wordsRecord, wordsAfter, tensorRecords, goRecord, fromGo, fromD, fromB, readJob}
+use Rattle.limits.specs.Limits.{rankLimit, jobLimit, fileRoom}
+use Rattle.little_endian.specs.Bytes.{has, little, numbers}
+use Rattle.marks.specs.Marks.{letterA, letterB, letterD, kindOf, isLayout, wordWidth, isGo}
+use Rattle.records.specs.Records.{Reading, got, refused, check, then, Tensor, kindAt, layoutAt, layoutRecord, wordsRecord, wordsAfter, tensorRecords}
+use Rattle.records.proofs.Reading.{wide-of, few-bytes}
+use Rattle.go.specs.Record.{goAt, goRecord}
+use Rattle.jobfile.specs.Format.{fromGo, fromD, fromB, readJob}
 use Rattle.job.specs.Run.{readingText, jobText}
-use Rattle.job.proofs.Reading.{wide-of, few-bytes}
 
 -- bytes of the longest records
 abbrev layoutRoom : ℕ

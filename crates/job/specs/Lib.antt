@@ -1,9 +1,1 @@
-pub mod Bytes
-pub mod Marks
-pub mod Format
-pub mod Letters
-pub mod Text
 pub mod Run
-pub mod Parts
-pub mod Placed
-pub mod Written

@@ -1,10 +1,2 @@
-pub mod Facts
-pub mod Reach
-pub mod Bits
-pub mod Spelling
-pub mod Stride
-pub mod ByLabel
-pub mod Injective
-pub mod Bounds
-pub mod StridesApart
 pub mod Address
+pub mod Listed

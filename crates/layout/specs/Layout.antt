@@ -7,7 +7,7 @@ use lib.IntN.{ℤ, pos, _+ℤ_, _*ℤ_}
 use Rattle.words.specs.Sums.{total}
 use Rattle.words.specs.Lists.{tabulate, firstOf}
 use Rattle.words.specs.Words.{up, down}
-use Rattle.layout.specs.Limits.{rankLimit}
+use Rattle.limits.specs.Limits.{rankLimit}
 use Rattle.layout.specs.declared.layout.Axis.{Axis}
 use Rattle.layout.specs.declared.layout.Layout.{Layout}
 

@@ -1,8 +1,2 @@
-pub mod Limits
 pub mod Layout
-pub mod Labels
-pub mod Letters
-pub mod Questions
-pub mod Bounds
-pub mod Checked
-pub mod LetterSets
+pub mod Listed

@@ -1,12 +1,12 @@
 ghost use mathlib.Core.Path.{_≡_};
 ghost use mathlib.Core.List.{[], _++_};
 ghost use Prim.Native.Nat.{_+_, _≤_};
-ghost use Rattle.layout.specs.Limits.{rankLimit, axesLimit};
+ghost use Rattle.limits.specs.Limits.{rankLimit, axesLimit};
 ghost use Rattle.layout.specs.Layout.{axes};
-ghost use Rattle.layout.specs.Checked.{listed};
+ghost use Rattle.layout.specs.Listed.{listed};
 use super::layout::Axis;
 use super::layout::Layout;
-use super::limits::Limits;
+use limits::limits::Limits;
 
 // A list of up to 24 axes: those of one tensor, or of three together.
 pub struct Axes {

@@ -2,7 +2,7 @@ ghost use mathlib.Core.Path.{_≡_};
 ghost use lib.ListN.{getD};
 ghost use lib.IntN.{pos};
 ghost use Rattle.layout.specs.Layout.{layoutOf, axesOf};
-use super::limits::Limits;
+use limits::limits::Limits;
 
 // One letter of a tensor with its extent and its stride.
 pub struct Axis {

@@ -1,9 +1,3 @@
-// One tensor's layout: its limits, its axes and letters, and the questions that are asked about it.
-pub mod apart;
+// A tensor's layout as it is handed in, and lists of axes.
 pub mod axes;
-pub mod inside;
-pub mod labels;
 pub mod layout;
-pub mod letters;
-pub mod limits;
-pub mod questions;

@@ -1,21 +1,11 @@
 ghost use mathlib.Core.Path.{_≡_};
 ghost use Rattle.layout.specs.Layout.{layoutOf};
 ghost use Rattle.contraction.specs.Operands.{three, contractionOf};
-ghost use Rattle.plain.specs.Call.{answerOf, plainCall};
-ghost use Rattle.nezgrak.specs.Flat.{number, returned, flat};
-use super::contraction_of::contraction_of;
-use plain::call::Outcome;
+ghost use Rattle.plain.specs.Call.{plainCall};
+ghost use Rattle.flat.specs.Flat.{returned, flat};
+use flat::contraction_of::contraction_of;
+use flat::plain_answer::code_of;
 use plain::call::contract;
-
-// An outcome as a number: 0 where the call is done.
-fn code_of(outcome: Outcome) -> u32
-    ensures { λ r. ⌜ r ≡ number (answerOf outcome) ⌝ }
-{
-    match outcome {
-        Outcome::Done => 0,
-        Outcome::Refused(n) => n,
-    }
-}
 
 // The plain engine: D becomes alpha × the sum over the labels that D lacks of A × B + beta × D.
 #[no_mangle]

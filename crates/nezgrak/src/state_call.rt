@@ -1,37 +1,14 @@
 ghost use mathlib.Core.Path.{_≡_};
 ghost use Rattle.layout.specs.Layout.{layoutOf};
 ghost use Rattle.contraction.specs.Operands.{three, contractionOf};
-ghost use Rattle.tiled.specs.Call.{stateAnswer, stateCall};
-ghost use Rattle.nezgrak.specs.Flat.{sizesOf};
-ghost use Rattle.nezgrak.specs.FlatState.{stateNumber, stateAfter, stateReturned, flatState};
-use super::contraction_of::contraction_of;
-use tiled::call::Found;
+ghost use Rattle.tiled.specs.Call.{stateCall};
+ghost use Rattle.flat.specs.Flat.{sizesOf};
+ghost use Rattle.flat.specs.FlatState.{stateReturned, flatState};
+use flat::contraction_of::contraction_of;
+use flat::state_answer::number_of;
+use flat::state_answer::state_after;
 use tiled::call::state as state_of;
 use tiles::grid::Sizes;
-
-// An answer as a number: 0 where it is a state.
-fn number_of(found: Found) -> u32
-    ensures { λ r. ⌜ r ≡ stateNumber (stateAnswer found) ⌝ }
-{
-    match found {
-        Found::Old => 0,
-        Found::Part => 0,
-        Found::Final => 0,
-        Found::Refused(n) => n,
-    }
-}
-
-// 0 old, 1 part, 2 final; as it was where the question was refused.
-fn state_after(found: Found, before: u32) -> u32
-    ensures { λ r. ⌜ r ≡ stateAfter (stateAnswer found) before ⌝ }
-{
-    match found {
-        Found::Old => 0,
-        Found::Part => 1,
-        Found::Final => 2,
-        Found::Refused(_) => before,
-    }
-}
 
 // The state of the output index of a batch, a row and a column count after `done` tiles.
 #[no_mangle]

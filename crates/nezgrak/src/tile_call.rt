@@ -1,46 +1,15 @@
 ghost use mathlib.Core.Path.{_≡_};
 ghost use Rattle.layout.specs.Layout.{layoutOf};
 ghost use Rattle.contraction.specs.Operands.{three, contractionOf};
-ghost use Rattle.tiled.specs.Call.{tileAnswer, doneIn, tileCall};
-ghost use Rattle.nezgrak.specs.Flat.{sizesOf};
-ghost use Rattle.nezgrak.specs.FlatTiles.{tileNumber, saidComplete, tilesReturned, flatTiles};
-use super::contraction_of::contraction_of;
-use tiled::call::Outcome;
+ghost use Rattle.tiled.specs.Call.{tileCall};
+ghost use Rattle.flat.specs.Flat.{sizesOf};
+ghost use Rattle.flat.specs.FlatTiles.{tilesReturned, flatTiles};
+use flat::contraction_of::contraction_of;
+use flat::tile_answer::complete_of;
+use flat::tile_answer::done_of;
+use flat::tile_answer::number_of;
 use tiled::call::run;
 use tiles::grid::Sizes;
-
-// An outcome as a number: 0 where the call ran.
-fn number_of(outcome: Outcome) -> u32
-    ensures { λ r. ⌜ r ≡ tileNumber (tileAnswer outcome) ⌝ }
-{
-    match outcome {
-        Outcome::Ran {
-            done: _,
-            complete: _,
-        } => 0,
-        Outcome::Refused { number, done: _ } => number,
-    }
-}
-
-// The tiles done after the call.
-fn done_of(outcome: Outcome) -> u64
-    ensures { λ r. ⌜ r ≡ doneIn (tileAnswer outcome) ⌝ }
-{
-    match outcome {
-        Outcome::Ran { done, complete: _ } => done,
-        Outcome::Refused { number: _, done } => done,
-    }
-}
-
-// 1 where all tiles are done, 0 where not, or where the call was refused.
-fn complete_of(outcome: Outcome) -> u32
-    ensures { λ r. ⌜ r ≡ saidComplete (tileAnswer outcome) ⌝ }
-{
-    match outcome {
-        Outcome::Ran { done: _, complete } => { if complete { 1 } else { 0 } }
-        Outcome::Refused { number: _, done: _ } => 0,
-    }
-}
 
 // The tiled engine: tiles from number `done` on, as many as the budget allows and are left.
 #[no_mangle]

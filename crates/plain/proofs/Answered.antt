@@ -5,10 +5,10 @@ use mathlib.Core.List.{List}
 use Prim.Native.Nat.{ℕ}
 use Rattle.contraction.specs.declared.contraction.Contraction.{Contraction}
 use Rattle.contraction.specs.Operands.{Operand, D, three, tensors, lengths}
-use Rattle.contraction.specs.Questions.{refusal, layoutQuestions}
-use Rattle.contraction.specs.Meaning.{Slices, firstNo, result}
-use Rattle.contraction.proofs.Refusal.{answers-no, answers-yes}
 use Rattle.contraction.proofs.SliceLengths.{lengthsOf, slice-lengths}
+use Rattle.questions.specs.Questions.{refusal, layoutQuestions}
+use Rattle.questions.proofs.Refusal.{answers-no, answers-yes}
+use Rattle.meaning.specs.Meaning.{Slices, firstNo, result}
 use Rattle.plain.specs.Call.{done, refused, gave, plainCall}
 
 pub asked : (c : Contraction) (a b d : List ℕ) {k : ℕ} → k ≡ refusal (layoutQuestions (tensors c) (lengths (lengthsOf a b d))) → k ≡ firstNo c (three a b d)

@@ -4,10 +4,10 @@ use mathlib.Core.Path.{_≡_, refl}
 use lib.ListN.{length}
 use Rattle.contraction.specs.declared.contraction.Contraction.{Contraction}
 use Rattle.contraction.specs.Operands.{tensors}
-use Rattle.contraction.specs.Meaning.{Slices, firstNo}
-use Rattle.contraction.proofs.Ready.{AllPassed, accepted-parts}
-use Rattle.contraction.proofs.Result.{length-result}
-use Rattle.contraction.proofs.Values.{result-in-range, result-elsewhere}
+use Rattle.questions.proofs.Ready.{AllPassed, accepted-parts}
+use Rattle.meaning.specs.Meaning.{Slices, firstNo}
+use Rattle.meaning.proofs.Result.{length-result}
+use Rattle.meaning.proofs.Values.{result-in-range, result-elsewhere}
 use Rattle.plain.specs.Call.{plainCall}
 use Rattle.plain.specs.Demand.{Demand2}
 use Rattle.plain.proofs.Answered.{call-done}

@@ -1,4 +1,2 @@
 pub mod Answered
 pub mod Demands
-pub mod Filled
-pub mod Runs

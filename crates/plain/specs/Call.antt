@@ -6,7 +6,7 @@ use mathlib.Core.List.{List}
 use lib.Dec.{eqb}
 use Rattle.contraction.specs.declared.contraction.Contraction.{Contraction}
 use Rattle.contraction.specs.Operands.{D}
-use Rattle.contraction.specs.Meaning.{Slices, firstNo, result}
+use Rattle.meaning.specs.Meaning.{Slices, firstNo, result}
 use Rattle.plain.specs.declared.call.Outcome.{Outcome}
 
 -- done, or the number of the question that refused

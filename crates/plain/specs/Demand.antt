@@ -6,10 +6,10 @@ use mathlib.Core.List.{List}
 use mathlib.Core.Logic.{_≢_}
 use lib.ListN.{length, getD}
 use Rattle.layout.specs.Layout.{axes, address}
-use Rattle.layout.specs.Bounds.{InRange}
+use Rattle.entries.specs.Bounds.{InRange}
 use Rattle.contraction.specs.declared.contraction.Contraction.{Contraction}
 use Rattle.contraction.specs.Operands.{D, tensors}
-use Rattle.contraction.specs.Meaning.{Slices, value}
+use Rattle.meaning.specs.Meaning.{Slices, value}
 
 -- of D's words afterwards: each word that D's layout addresses is the value at its index, every other word has its old value
 pub record Demand2 (c : Contraction) (w : Slices) (after : List ℕ) : Type 0 where

@@ -1,12 +1,12 @@
 ghost use mathlib.Core.Path.{_≡_};
 ghost use Rattle.contraction.specs.Operands.{three};
 ghost use Rattle.plain.specs.Call.{answerOf, gave, plainCall};
-use super::fill::fill;
-use super::walk::walk_of;
 use contraction::contraction::Contraction;
 use contraction::contraction::Lengths;
-use contraction::plan::plan_of;
-use contraction::questions::first_no;
+use direct::fill::fill;
+use direct::walk::walk_of;
+use plan::plan::plan_of;
+use questions::questions::first_no;
 
 // What a call answers: done, or the number of the question that refused.
 pub enum Outcome {

@@ -1,5 +1,2 @@
-// The plain engine: each word of D by a direct sum over the counts of the depth group.
+// The plain engine: the questions, then the direct sum.
 pub mod call;
-pub mod fill;
-pub mod sum;
-pub mod walk;

@@ -5,19 +5,19 @@ use mathlib.Core.List.{List, _++_}
 use Prim.Native.Nat.{ℕ}
 use lib.ListN.{length}
 use Rattle.contraction.specs.declared.contraction.Contraction.{Contraction}
-use Rattle.contraction.specs.declared.plan.Plan.{Plan}
 use Rattle.contraction.specs.Operands.{three, tensors, lengths}
-use Rattle.contraction.specs.Questions.{refusal, eachTensor, allLabels, entries, layoutQuestions}
-use Rattle.contraction.specs.Plan.{Planned}
-use Rattle.contraction.specs.Ready.{LayoutsPass}
-use Rattle.contraction.proofs.Refusal.{refusal-both}
 use Rattle.contraction.proofs.SliceLengths.{lengthsOf}
+use Rattle.questions.specs.Questions.{refusal, eachTensor, allLabels, entries, layoutQuestions}
+use Rattle.questions.specs.Answers.{LayoutsPass}
+use Rattle.questions.proofs.Refusal.{refusal-both}
+use Rattle.plan.specs.declared.plan.Plan.{Plan}
+use Rattle.plan.specs.Plan.{Planned}
 use Rattle.tiles.specs.declared.grid.Sizes.{Sizes}
 use Rattle.tiles.specs.declared.grid.Grid.{Grid}
 use Rattle.tiles.specs.Grid.{cutIn}
-use Rattle.tiled.specs.Setting.{cutOf}
-use Rattle.tiled.specs.Questions.{sizeQuestion, acceptQuestions}
-use Rattle.tiled.specs.Planned.{planCut, GridOf, PlanFits}
+use Rattle.tile_blocks.specs.Setting.{cutOf}
+use Rattle.tile_blocks.specs.Planned.{planCut, GridOf, PlanFits}
+use Rattle.tile_questions.specs.Questions.{sizeQuestion, acceptQuestions}
 use Rattle.tiled.proofs.Answered.{asked, accepted}
 use Rattle.tiled.proofs.Reaches.{plan-cut, plan-fits}
 

@@ -10,24 +10,24 @@ use borrow.Author.Tests.{ne-eqb}
 use lib.ListN.{length, getD}
 use Rattle.words.proofs.Tabulate.{tabulate-ext}
 use Rattle.contraction.specs.declared.contraction.Contraction.{Contraction}
-use Rattle.contraction.specs.declared.plan.Plan.{Plan}
 use Rattle.contraction.specs.Operands.{A, B, tensors}
-use Rattle.contraction.specs.Groups.{Group, batch, row, column, depth, number}
-use Rattle.contraction.specs.Meaning.{Slices, shapeIn, entry}
-use Rattle.contraction.specs.Plan.{Planned}
-use Rattle.contraction.proofs.Lacks.{lacking, lacks, address-lacks}
-use Rattle.contraction.proofs.Ready.{AllPassed}
+use Rattle.questions.proofs.Ready.{AllPassed}
+use Rattle.groups.specs.Groups.{Group, batch, row, column, depth, number}
+use Rattle.meaning.specs.Meaning.{Slices, shapeIn, entry}
+use Rattle.meaning.proofs.Lacks.{lacking, lacks, address-lacks}
+use Rattle.plan.specs.declared.plan.Plan.{Plan}
+use Rattle.plan.specs.Plan.{Planned}
+use Rattle.pack.proofs.Packing.{packed-ext}
 use Rattle.tiles.specs.declared.grid.Sizes.{Sizes}
 use Rattle.tiles.specs.Cut.{Cut, width, total, panelOf}
 use Rattle.tiles.specs.Setting.{walk, tilesFrom}
 use Rattle.tiles.proofs.Agree.{Agree, walk-agrees as walk-same}
 use Rattle.tiles.proofs.Cuts.{place-in}
 use Rattle.tiles.proofs.Numbering.{tile-of}
-use Rattle.blocks.proofs.Packing.{packed-ext}
-use Rattle.tiled.specs.Side.{Side, left, right, both, tensorOn, sizeOn, tileOn, blockOn}
-use Rattle.tiled.specs.Setting.{counts, cutOf, entryAt, setting}
-use Rattle.tiled.specs.Work.{packedBlock, packed, packedLast, entryOn, workAfter}
-use Rattle.tiled.specs.Planned.{readIn, planSetting}
+use Rattle.tile_blocks.specs.Side.{Side, left, right, both, tensorOn, sizeOn, tileOn, blockOn}
+use Rattle.tile_blocks.specs.Setting.{counts, cutOf, entryAt, setting}
+use Rattle.tile_blocks.specs.Planned.{readIn, planSetting}
+use Rattle.tiling.specs.Work.{packedBlock, packed, packedLast, entryOn, workAfter}
 use Rattle.tiled.proofs.Reaches.{side-entry, reaches-d}
 
 -- entries that agree at every count in range are packed alike: the words of a block, and of the work slice

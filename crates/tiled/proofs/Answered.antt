@@ -11,16 +11,16 @@ use lib.ListN.{length}
 use borrow.Author.Tests.{le-leb}
 use Rattle.contraction.specs.declared.contraction.Contraction.{Contraction}
 use Rattle.contraction.specs.Operands.{Operand, A, B, D, three, tensors, lengths}
-use Rattle.contraction.specs.Questions.{Question, refusal, eachTensor, allLabels, entries, layoutQuestions}
-use Rattle.contraction.specs.Meaning.{Slices}
-use Rattle.contraction.proofs.Refusal.{Numbered, passed, refusal-next, refusal-first, refusal-both, answers-no, answers-yes}
-use Rattle.contraction.proofs.Ready.{AllPassed, accepted-parts}
 use Rattle.contraction.proofs.SliceLengths.{lengthsOf, slice-lengths}
+use Rattle.questions.specs.Questions.{Question, refusal, eachTensor, allLabels, entries, layoutQuestions}
+use Rattle.questions.proofs.Refusal.{Numbered, passed, refusal-next, refusal-first, refusal-both, answers-no, answers-yes}
+use Rattle.questions.proofs.Ready.{AllPassed, accepted-parts}
+use Rattle.meaning.specs.Meaning.{Slices}
 use Rattle.tiles.specs.declared.grid.Sizes.{Sizes}
 use Rattle.tiles.specs.Cut.{total}
 use Rattle.tiles.specs.Progress.{stateAt}
-use Rattle.tiled.specs.Setting.{cutOf}
-use Rattle.tiled.specs.Questions.{sizesFit, sizeQuestion, roomQuestion, doneQuestion, indexQuestion, acceptQuestions, tileQuestions, stateQuestions}
+use Rattle.tile_blocks.specs.Setting.{cutOf}
+use Rattle.tile_questions.specs.Questions.{sizesFit, sizeQuestion, roomQuestion, doneQuestion, indexQuestion, acceptQuestions, tileQuestions, stateQuestions}
 use Rattle.tiled.specs.Call.{TileCall, refused, is, stateRefused, gave, ranCall, tileCall, stateCall}
 
 -- the number that the code took of the slices' lengths

@@ -14,7 +14,7 @@ use lib.Dec.{eqb}
 use lib.ListN.{length, getD}
 use Rattle.contraction.specs.declared.contraction.Contraction.{Contraction}
 use Rattle.contraction.specs.Operands.{three}
-use Rattle.contraction.specs.Questions.{refusal}
+use Rattle.questions.specs.Questions.{refusal}
 use Rattle.tiles.specs.declared.grid.Sizes.{Sizes}
 use Rattle.tiles.specs.Cut.{Cut, KB, total}
 use Rattle.tiles.specs.Progress.{old, final, done, stateAt}
@@ -24,8 +24,8 @@ use Rattle.tiles.proofs.Progress.{done-down}
 use Rattle.tiles.proofs.States.{old-none, final-all}
 use Rattle.tiles.proofs.Sound.{Sound}
 use Rattle.tiles.proofs.Closed.{length-closed, closed-shows, walk-closed, closed-zero}
-use Rattle.tiled.specs.Setting.{cutOf, addressAt, setting}
-use Rattle.tiled.specs.Questions.{roomy, acceptQuestions}
+use Rattle.tile_blocks.specs.Setting.{cutOf, addressAt, setting}
+use Rattle.tile_questions.specs.Questions.{roomy, acceptQuestions}
 use Rattle.tiled.specs.Call.{doneIn, ran, refused, TileCall, gave, ranCall, tileCall, stateCall}
 use Rattle.tiled.specs.Demand.{Call, tiles, state, Answer, tiled, found, After, run, next, answer, count, answers, Demand3}
 use Rattle.tiled.proofs.Soundness.{setting-same, sound}

@@ -9,13 +9,13 @@ use native.Mathlib.Omega.{arith}
 use lib.ListN.{length, getD}
 use Rattle.contraction.specs.declared.contraction.Contraction.{Contraction}
 use Rattle.contraction.specs.Operands.{three}
-use Rattle.contraction.specs.Questions.{refusal}
+use Rattle.questions.specs.Questions.{refusal}
 use Rattle.tiles.specs.declared.grid.Sizes.{Sizes}
 use Rattle.tiles.specs.Cut.{total}
 use Rattle.tiles.specs.Setting.{closed}
 use Rattle.tiles.proofs.PanelWords.{final-word}
-use Rattle.tiled.specs.Setting.{cutOf, addressAt, setting}
-use Rattle.tiled.specs.Questions.{roomy, acceptQuestions}
+use Rattle.tile_blocks.specs.Setting.{cutOf, addressAt, setting}
+use Rattle.tile_questions.specs.Questions.{roomy, acceptQuestions}
 use Rattle.tiled.specs.Demand.{Call, tiles, run, next, count, Consequences}
 use Rattle.tiled.proofs.Soundness.{closed-result}
 use Rattle.tiled.proofs.Answered.{accepted}

@@ -1,12 +1,7 @@
-pub mod Reaches
+pub mod Accepted
 pub mod Agrees
-pub mod Soundness
-pub mod Standing
 pub mod Answered
 pub mod Demands
 pub mod Following
-pub mod Example
-pub mod PackedWork
-pub mod Accepted
-pub mod TileSizes
-pub mod TileSteps
+pub mod Reaches
+pub mod Soundness

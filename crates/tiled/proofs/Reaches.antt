@@ -10,29 +10,30 @@ use native.Mathlib.Omega.{arith}
 use borrow.Author.Tests.{leb-true}
 use Rattle.words.specs.Words.{word, wordOf}
 use Rattle.words.proofs.Modular.{word-add-left, word-add-right}
-use Rattle.layout.specs.Limits.{productLimit}
+use Rattle.limits.specs.Limits.{productLimit}
 use Rattle.layout.specs.Layout.{address}
-use Rattle.layout.specs.Questions.{points, pointsFit}
+use Rattle.points.specs.Questions.{points, pointsFit}
 use Rattle.contraction.specs.declared.contraction.Contraction.{Contraction}
-use Rattle.contraction.specs.declared.plan.Plan.{Plan}
 use Rattle.contraction.specs.Operands.{Operand, A, B, D, tensors, together}
-use Rattle.contraction.specs.Groups.{Label, Group, batch, row, column, depth, group, size, offset, offsetIn}
-use Rattle.contraction.specs.Held.{labelsIn}
-use Rattle.contraction.specs.Index.{index}
-use Rattle.contraction.specs.Meaning.{shapeIn}
-use Rattle.contraction.specs.Offsets.{wordsIn}
-use Rattle.contraction.specs.Plan.{Planned, planned}
-use Rattle.contraction.proofs.Ready.{AllPassed}
-use Rattle.contraction.proofs.FoldKeeps.{fold-size}
-use Rattle.contraction.proofs.Foldable.{group-foldable, fold-foldable}
-use Rattle.contraction.proofs.GroupSizes.{group-sizes, group-size-pos}
-use Rattle.contraction.proofs.Reached.{index-inside, reached-index}
+use Rattle.questions.proofs.Ready.{AllPassed}
+use Rattle.groups.specs.Groups.{Label, Group, batch, row, column, depth, group, size}
+use Rattle.groups.specs.Held.{labelsIn}
+use Rattle.offsets.specs.Counts.{offset, offsetIn}
+use Rattle.offsets.specs.Offsets.{wordsIn}
+use Rattle.folding.proofs.FoldKeeps.{fold-size}
+use Rattle.meaning.specs.Index.{index}
+use Rattle.meaning.specs.Meaning.{shapeIn}
+use Rattle.plan.specs.declared.plan.Plan.{Plan}
+use Rattle.plan.specs.Plan.{Planned, planned}
+use Rattle.plan.proofs.Foldable.{group-foldable, fold-foldable}
+use Rattle.plan.proofs.GroupSizes.{group-sizes, group-size-pos}
+use Rattle.plan.proofs.Reached.{index-inside, reached-index}
 use Rattle.tiles.specs.declared.grid.Sizes.{Sizes}
-use Rattle.tiled.specs.Side.{Side, left, right, both, tensorOn, groupOn, sizeOn}
-use Rattle.tiled.specs.Setting.{counts, cutOf, addressAt}
-use Rattle.tiled.specs.Questions.{sizesFit}
-use Rattle.tiled.proofs.TileSizes.{sizes-limited}
-use Rattle.tiled.specs.Planned.{placeIn, placeD, planCut, Clear, PlanFits}
+use Rattle.tile_blocks.specs.Side.{Side, left, right, both, tensorOn, groupOn, sizeOn}
+use Rattle.tile_blocks.specs.Setting.{counts, cutOf, addressAt}
+use Rattle.tile_blocks.specs.Planned.{placeIn, placeD, planCut, Clear, PlanFits}
+use Rattle.tile_questions.specs.Questions.{sizesFit}
+use Rattle.tile_questions.proofs.TileSizes.{sizes-limited}
 
 -- count 0 moves nowhere
 offset-zero : (w : Label → ℕ) (g : List Label) → offset w g 0 ≡ 0

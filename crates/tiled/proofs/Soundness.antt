@@ -12,27 +12,27 @@ use Rattle.words.specs.Sums.{sumTo}
 use Rattle.words.specs.Lists.{member}
 use Rattle.words.specs.Words.{word}
 use Rattle.layout.specs.Layout.{axes, address}
-use Rattle.layout.specs.Bounds.{InRange}
-use Rattle.layout.proofs.Bounds.{inside-every}
+use Rattle.entries.specs.Bounds.{InRange}
+use Rattle.entries.proofs.Bounds.{inside-every}
 use Rattle.contraction.specs.declared.contraction.Contraction.{Contraction}
 use Rattle.contraction.specs.Operands.{Operand, A, B, D, tensors}
-use Rattle.contraction.specs.Groups.{letters, batch, row, column, inGroup, group}
-use Rattle.contraction.specs.Index.{index}
-use Rattle.contraction.specs.Meaning.{Slices, shapeIn, entry, result}
-use Rattle.contraction.proofs.Counts.{outGroups, out-groups, index-outputs}
-use Rattle.contraction.proofs.Parts.{Part, Below, covered, partsAt, atParts, parts-in-range}
-use Rattle.contraction.proofs.Onto.{parts-onto}
-use Rattle.contraction.proofs.Ready.{AllPassed}
-use Rattle.contraction.proofs.Result.{parts-apart, length-result, term, value-counts}
-use Rattle.contraction.proofs.Values.{result-in-range, result-elsewhere}
+use Rattle.questions.proofs.Ready.{AllPassed}
+use Rattle.groups.specs.Groups.{letters, batch, row, column, inGroup, group}
+use Rattle.meaning.specs.Index.{index}
+use Rattle.meaning.specs.Meaning.{Slices, shapeIn, entry, result}
+use Rattle.meaning.proofs.Counts.{outGroups, out-groups, index-outputs}
+use Rattle.meaning.proofs.Parts.{Part, Below, covered, partsAt, atParts, parts-in-range}
+use Rattle.meaning.proofs.Onto.{parts-onto}
+use Rattle.meaning.proofs.Result.{parts-apart, length-result, term, value-counts}
+use Rattle.meaning.proofs.Values.{result-in-range, result-elsewhere}
 use Rattle.tiles.specs.declared.grid.Sizes.{Sizes}
 use Rattle.tiles.specs.Cut.{Cut, total}
 use Rattle.tiles.specs.Setting.{settingBy, closed}
 use Rattle.tiles.proofs.Sound.{Sound, direct}
 use Rattle.tiles.proofs.Closed.{shows-render, closed-total}
-use Rattle.tiled.specs.Setting.{counts, cutOf, addressAt, entryAt, setting}
-use Rattle.tiled.specs.Questions.{sizesFit}
-use Rattle.tiled.proofs.TileSizes.{sizes-limited}
+use Rattle.tile_blocks.specs.Setting.{counts, cutOf, addressAt, entryAt, setting}
+use Rattle.tile_questions.specs.Questions.{sizesFit}
+use Rattle.tile_questions.proofs.TileSizes.{sizes-limited}
 
 -- the setting reads A and B only
 pub setting-same : (c : Contraction) (z : Sizes) (v w : Slices) → v A ≡ w A → v B ≡ w B → setting c z v ≡ setting c z w

@@ -6,17 +6,17 @@ use mathlib.Core.List.{List}
 use lib.Dec.{eqb}
 use Rattle.contraction.specs.declared.contraction.Contraction.{Contraction}
 use Rattle.contraction.specs.Operands.{D}
-use Rattle.contraction.specs.Questions.{refusal}
-use Rattle.contraction.specs.Meaning.{Slices}
+use Rattle.questions.specs.Questions.{refusal}
+use Rattle.meaning.specs.Meaning.{Slices}
 use Rattle.tiles.specs.declared.grid.Sizes.{Sizes}
 use Rattle.tiles.specs.Cut.{total}
 use Rattle.tiles.specs.Progress.{State, old, part, final, stateAt}
 use Rattle.tiles.specs.Setting.{walk, tilesFrom}
+use Rattle.tile_blocks.specs.Setting.{cutOf, setting}
+use Rattle.tile_questions.specs.Questions.{tileQuestions, stateQuestions}
+use Rattle.tiling.specs.Work.{workAfter}
 use Rattle.tiled.specs.declared.call.Outcome.{Outcome}
 use Rattle.tiled.specs.declared.call.Found.{Found}
-use Rattle.tiled.specs.Setting.{cutOf, setting}
-use Rattle.tiled.specs.Work.{workAfter}
-use Rattle.tiled.specs.Questions.{tileQuestions, stateQuestions}
 
 -- the new count of tiles done and whether that is the total; or the number of the question that refused, and the count as given
 pub data TileAnswer : Type 0 where

@@ -9,13 +9,13 @@ use lib.Dec.{eqb}
 use lib.ListN.{length, getD}
 use Rattle.contraction.specs.declared.contraction.Contraction.{Contraction}
 use Rattle.contraction.specs.Operands.{three}
-use Rattle.contraction.specs.Meaning.{result}
+use Rattle.meaning.specs.Meaning.{result}
 use Rattle.tiles.specs.declared.grid.Sizes.{Sizes}
 use Rattle.tiles.specs.Cut.{KB, total}
 use Rattle.tiles.specs.Progress.{old, final, done, stateAt}
 use Rattle.tiles.specs.Setting.{wordAt}
-use Rattle.tiled.specs.Setting.{cutOf, addressAt, setting}
-use Rattle.tiled.specs.Questions.{roomy, isIndex}
+use Rattle.tile_blocks.specs.Setting.{cutOf, addressAt, setting}
+use Rattle.tile_questions.specs.Questions.{roomy, isIndex}
 use Rattle.tiled.specs.Call.{TileAnswer, ran, refused, doneIn, StateAnswer, is, stateRefused, tileCall, stateCall}
 
 pub data Call : Type 0 where

@@ -1,20 +1,18 @@
 ghost use mathlib.Core.Path.{_≡_};
+ghost use Prim.Native.Nat.{min};
 ghost use Rattle.contraction.specs.Operands.{three};
 ghost use Rattle.tiles.specs.Grid.{stateOf};
-ghost use Rattle.tiled.specs.Planned.{GridOf, PlanFits};
 ghost use Rattle.tiled.specs.Call.{is, tileAnswer, stateAnswer, gave, tileCall, stateCall};
-use super::questions::accept_refusal;
-use super::questions::state_refusal;
-use super::questions::tile_refusal;
-use super::run::run_tiles;
 use contraction::contraction::Contraction;
 use contraction::contraction::Lengths;
-use contraction::plan::Plan;
-use contraction::plan::plan_of;
-use tiles::grid::Counts;
-use tiles::grid::Grid;
+use plan::plan::plan_of;
+use tile_blocks::grid::grid_of;
+use tile_questions::refusals::accept_refusal;
+use tile_questions::refusals::state_refusal;
+use tile_questions::refusals::tile_refusal;
 use tiles::grid::Sizes;
 use tiles::grid::State;
+use tiling::run::run_tiles;
 
 // What a tile call answers: the new count of tiles done and whether that is the total, or the number of the question that refused and the count as given.
 pub enum Outcome {
@@ -30,25 +28,6 @@ pub enum Found {
     Refused(u32),
 }
 
-// The grid of a plan's groups.
-pub fn grid_of(p: Plan, z: Sizes) -> Grid
-    requires { ⌜ PlanFits p z ⌝ }
-    ensures { λ r. ⌜ GridOf p r × (r .sizes ≡ z) ⌝ }
-{
-    let groups = p.groups;
-    let batch = groups.batch;
-    let row = groups.row;
-    let column = groups.column;
-    let depth = groups.depth;
-    let counts = Counts {
-        batch: batch.size_from(0),
-        row: row.size_from(0),
-        column: column.size_from(0),
-        depth: depth.size_from(0),
-    };
-    Grid::of(counts, z)
-}
-
 fn answer_of(s: State) -> Found
     ensures { λ r. ⌜ stateAnswer r ≡ is (stateOf s) ⌝ }
 {
@@ -57,6 +36,13 @@ fn answer_of(s: State) -> Found
         State::Part => Found::Part,
         State::Final => Found::Final,
     }
+}
+
+// The smaller of two counts.
+fn smaller(a: u64, b: u64) -> u64
+    ensures { λ r. ⌜ r ≡ min a b ⌝ }
+{
+    if a < b { a } else { b }
 }
 
 // Questions 1 to 12; where all pass, the smaller of the budget and what is left of the tiles is run. A refusal changes no word.
@@ -89,7 +75,7 @@ pub fn run(
     }
     let total = g.total;
     let left = total - done;
-    let count = if budget < left { budget } else { left };
+    let count = smaller(budget, left);
     let t = run_tiles(p, g, c.alpha, c.beta, a, b, d, work, done, count);
     Outcome::Ran {
         done: t,

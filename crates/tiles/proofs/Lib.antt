@@ -1,9 +1,9 @@
+pub mod Agree
+pub mod Closed
 pub mod Cuts
 pub mod Numbering
-pub mod Progress
-pub mod States
 pub mod PanelWords
-pub mod Sound
-pub mod Closed
+pub mod Progress
 pub mod Sizes
-pub mod Agree
+pub mod Sound
+pub mod States

@@ -5,7 +5,7 @@ use Prim.Native.Nat.{ℕ, zero, suc, _+_, _-_, _*_, _<_, _≤_, max}
 use native.Mathlib.Nat.{le-trans, lt-of-lt-of-le, le-max-left, le-max-right, max-le, mul-le-mul, mul-pos, le-mul-of-pos-right, le-div-iff-mul-le}
 use native.Mathlib.Omega.{arith}
 use lib.Arith.{digits-lt}
-use Rattle.layout.specs.Limits.{productLimit}
+use Rattle.limits.specs.Limits.{productLimit}
 use Rattle.tiles.specs.Cut.{Cut, blocks, MB, NB, KB, total, batchOf, columnOf, panelOf, rowOf}
 use Rattle.tiles.specs.Grid.{Fits}
 use Rattle.tiles.proofs.Cuts.{blocks-le}

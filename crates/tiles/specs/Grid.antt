@@ -2,7 +2,7 @@
 -- Assumes nothing.
 use Prim.Native.Nat.{ℕ, _*_, _≤_, _<_, max}
 use mathlib.Core.Path.{_≡_}
-use Rattle.layout.specs.Limits.{rowsLimit, colsLimit, depthLimit, productLimit}
+use Rattle.limits.specs.Limits.{rowsLimit, colsLimit, depthLimit, productLimit}
 use Rattle.tiles.specs.declared.grid.Grid.{Grid}
 use Rattle.tiles.specs.declared.grid.Tile.{Tile}
 use Rattle.tiles.specs.declared.grid.State.{State as StateCode}

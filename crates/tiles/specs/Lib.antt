@@ -1,4 +1,4 @@
 pub mod Cut
+pub mod Grid
 pub mod Progress
 pub mod Setting
-pub mod Grid

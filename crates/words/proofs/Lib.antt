@@ -1,7 +1,11 @@
+pub mod Filled
+pub mod Fronts
+pub mod Lanes
 pub mod Lists
-pub mod Sums
-pub mod Store
 pub mod Modular
+pub mod Store
+pub mod Strides
+pub mod Sums
 pub mod Tabulate
 pub mod Whole
-pub mod Strides
+pub mod Lent

@@ -1,6 +1,6 @@
 -- Whole numbers by how far they go up and down, their products and sums, and their 64-bit words.
 -- Assumes nothing.
-use mathlib.Core.Path.{_≡_, refl}
+use mathlib.Core.Path.{_≡_, refl, sym}
 use mathlib.Core.Bool.{Bool, true, false, not, cond}
 use Prim.Native.Nat.{ℕ, zero, suc, _+_, _*_, _-_, _%_, _^_, _≤_, _<_}
 use native.Mathlib.Nat.{mul-zero}
@@ -94,3 +94,7 @@ word-add x y hx hy = go (x +ℤ y) (add-parts x y) (size-add x y)
         let c : wordOf 64 y + down y ≡ up y + sign y * 2 ^ 64 = word-is y (omega (arith, size-parts y)) in
         let d : wordOf 64 z + down z ≡ up z + sign z * 2 ^ 64 = word-is z (omega (arith, size-parts z, size-parts x, size-parts y)) in
         omega (arith, a, c, d, wordOf-lt z (omega (arith, size-parts x, size-parts y)))
+
+-- how far a small number's word, read as signed, goes up and down adds up to the number's size
+pub word-size : (s : ℤ) → natAbs s < 2 ^ 63 → {w u d : ℕ} → w ≡ wordOf 64 s → u ≡ up (signed 64 w) → d ≡ down (signed 64 w) → u + d ≡ natAbs s
+word-size s h p q r = rw (q, r, p, signed-word s h) (sym (size-parts s))

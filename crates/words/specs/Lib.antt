@@ -1,4 +1,5 @@
-pub mod Sums
+pub mod Fronts
 pub mod Lists
-pub mod Words
 pub mod Loops
+pub mod Sums
+pub mod Words

@@ -1,7 +1,7 @@
 -- `mul` meets its contract: the product of two words fits 64 bits, and the remainder fits a word.
 -- Assumes nothing.
-use Rattle.words.proofs.Modular.{product-lt}
 use borrow.Author.Needs.{needs}
+use Rattle.words.proofs.Modular.{product-lt}
 use Rattle.words.proofs.mul.Statement.{statement}
 use Rattle.words.proofs.mul.Tie as tie
 

@@ -5,10 +5,10 @@ use mathlib.Core.List.{List}
 use Prim.Native.Nat.{ℕ}
 use borrow.Author.Needs.{needs}
 use Rattle.contraction.specs.declared.contraction.Contraction.{Contraction}
-use Rattle.contraction.specs.Meaning.{Slices}
+use Rattle.meaning.specs.Meaning.{Slices}
 use Rattle.plain.specs.declared.call.Outcome.{Outcome}
 use Rattle.plain.specs.Call.{answerOf, gave, plainCall}
-use Rattle.nezgrak.specs.Flat.{number, returned, flat}
+use Rattle.flat.specs.Flat.{number, returned, flat}
 use Rattle.nezgrak.proofs.plain_call.nezgrak_contract.Statement.{statement}
 use Rattle.nezgrak.proofs.plain_call.nezgrak_contract.Tie as tie
 

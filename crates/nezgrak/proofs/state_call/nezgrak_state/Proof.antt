@@ -4,11 +4,11 @@ use mathlib.Core.Path.{_≡_, ap, _∙_}
 use Prim.Native.Nat.{ℕ}
 use borrow.Author.Needs.{needs}
 use Rattle.contraction.specs.declared.contraction.Contraction.{Contraction}
-use Rattle.contraction.specs.Meaning.{Slices}
+use Rattle.meaning.specs.Meaning.{Slices}
 use Rattle.tiles.specs.declared.grid.Sizes.{Sizes}
 use Rattle.tiled.specs.declared.call.Found.{Found}
 use Rattle.tiled.specs.Call.{stateAnswer, stateCall}
-use Rattle.nezgrak.specs.FlatState.{stateNumber, stateAfter, stateReturned, flatState}
+use Rattle.flat.specs.FlatState.{stateNumber, stateAfter, stateReturned, flatState}
 use Rattle.nezgrak.proofs.state_call.nezgrak_state.Statement.{statement}
 use Rattle.nezgrak.proofs.state_call.nezgrak_state.Tie as tie
 

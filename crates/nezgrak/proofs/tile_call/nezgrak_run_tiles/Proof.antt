@@ -5,11 +5,11 @@ use mathlib.Core.List.{List}
 use Prim.Native.Nat.{ℕ}
 use borrow.Author.Needs.{needs}
 use Rattle.contraction.specs.declared.contraction.Contraction.{Contraction}
-use Rattle.contraction.specs.Meaning.{Slices}
+use Rattle.meaning.specs.Meaning.{Slices}
 use Rattle.tiles.specs.declared.grid.Sizes.{Sizes}
 use Rattle.tiled.specs.declared.call.Outcome.{Outcome}
 use Rattle.tiled.specs.Call.{tileAnswer, doneIn, gave, tileCall}
-use Rattle.nezgrak.specs.FlatTiles.{tileNumber, saidComplete, tilesReturned, flatTiles}
+use Rattle.flat.specs.FlatTiles.{tileNumber, saidComplete, tilesReturned, flatTiles}
 use Rattle.nezgrak.proofs.tile_call.nezgrak_run_tiles.Statement.{statement}
 use Rattle.nezgrak.proofs.tile_call.nezgrak_run_tiles.Tie as tie
 

@@ -9,25 +9,25 @@ use lib.ListN.{length}
 use borrow.Author.Needs.{needs}
 use denote.Ref.{now}
 use Rattle.words.specs.Loops.{each}
-use Rattle.layout.specs.Limits.{axesLimit}
+use Rattle.limits.specs.Limits.{axesLimit}
 use Rattle.contraction.specs.declared.contraction.Contraction.{Contraction}
-use Rattle.contraction.specs.declared.plan.Plan.{Plan}
 use Rattle.contraction.specs.Operands.{three, tensors, lengths}
-use Rattle.contraction.specs.Groups.{depth, size}
-use Rattle.contraction.specs.Held.{labelsIn}
-use Rattle.contraction.specs.Questions.{refusal, layoutQuestions}
-use Rattle.contraction.specs.Meaning.{result}
-use Rattle.contraction.specs.Offsets.{wordsIn}
-use Rattle.contraction.specs.Plan.{Planned}
-use Rattle.contraction.specs.Ready.{Foldable}
-use Rattle.contraction.proofs.Ready.{AllPassed, accepted-parts}
 use Rattle.contraction.proofs.SliceLengths.{lengthsOf, slice-lengths}
-use Rattle.contraction.proofs.Foldable.{group-foldable, outputs-foldable, fold-foldable}
-use Rattle.plain.specs.declared.walk.Walk.{Walk}
+use Rattle.questions.specs.Questions.{refusal, layoutQuestions}
+use Rattle.questions.proofs.Ready.{AllPassed, accepted-parts}
+use Rattle.groups.specs.Groups.{depth, size}
+use Rattle.groups.specs.Held.{labelsIn}
+use Rattle.groups.specs.Foldable.{Foldable}
+use Rattle.offsets.specs.Offsets.{wordsIn}
+use Rattle.meaning.specs.Meaning.{result}
+use Rattle.plan.specs.declared.plan.Plan.{Plan}
+use Rattle.plan.specs.Plan.{Planned}
+use Rattle.plan.proofs.Foldable.{group-foldable, outputs-foldable, fold-foldable}
+use Rattle.direct.specs.declared.walk.Walk.{Walk}
+use Rattle.direct.specs.Walk.{places, over, filled, Walks, Clear}
+use Rattle.direct.proofs.Filled.{clear, filled-result}
 use Rattle.plain.specs.Call.{done, gave}
-use Rattle.plain.specs.Walk.{places, over, filled, Walks, Clear}
 use Rattle.plain.proofs.Answered.{asked, call-refused, call-done}
-use Rattle.plain.proofs.Filled.{clear, filled-result}
 use Rattle.plain.proofs.call.contract.Statement.{statement}
 use Rattle.plain.proofs.call.contract.Tie as tie
 

@@ -2,7 +2,6 @@
 -- that run leave what its setting says.
 -- Assumes nothing.
 use mathlib.Core.Path.{_≡_, sym, ap, _∙_}
-use mathlib.Core.Logic.{⊎-elim}
 use mathlib.Core.List.{List, _++_}
 use Prim.Native.Nat.{ℕ, _+_, _-_, _*_, _≤_, min}
 use native.Mathlib.Nat.{mul-comm}
@@ -14,21 +13,21 @@ use borrow.Author.Tests.{leb-true}
 use denote.Ref.{now}
 use Rattle.words.proofs.Tabulate.{length-tabulate}
 use Rattle.contraction.specs.declared.contraction.Contraction.{Contraction}
-use Rattle.contraction.specs.declared.plan.Plan.{Plan}
 use Rattle.contraction.specs.Operands.{three, tensors, lengths}
-use Rattle.contraction.specs.Questions.{refusal, layoutQuestions}
-use Rattle.contraction.specs.Plan.{Planned}
-use Rattle.contraction.proofs.Refusal.{passed}
 use Rattle.contraction.proofs.SliceLengths.{lengthsOf}
+use Rattle.questions.specs.Questions.{refusal, layoutQuestions}
+use Rattle.questions.proofs.Refusal.{passed}
+use Rattle.plan.specs.declared.plan.Plan.{Plan}
+use Rattle.plan.specs.Plan.{Planned}
 use Rattle.tiles.specs.declared.grid.Sizes.{Sizes}
 use Rattle.tiles.specs.declared.grid.Grid.{Grid}
 use Rattle.tiles.specs.Cut.{Cut, total}
 use Rattle.tiles.specs.Grid.{cutIn}
 use Rattle.tiles.specs.Setting.{walk, tilesFrom}
-use Rattle.tiled.specs.Setting.{cutOf, setting}
-use Rattle.tiled.specs.Work.{packedLast, workAfter}
-use Rattle.tiled.specs.Questions.{sizeQuestion, roomQuestion, doneQuestion}
-use Rattle.tiled.specs.Planned.{GridOf, Clear, readIn, planSetting}
+use Rattle.tile_blocks.specs.Setting.{cutOf, setting}
+use Rattle.tile_blocks.specs.Planned.{GridOf, Clear, readIn, planSetting}
+use Rattle.tile_questions.specs.Questions.{sizeQuestion, roomQuestion, doneQuestion}
+use Rattle.tiling.specs.Work.{packedLast, workAfter}
 use Rattle.tiled.specs.Call.{ran, refused, gave, ranCall, tileCall}
 use Rattle.tiled.proofs.Answered.{asked, accepted, tile-early, tile-late, tile-ran}
 use Rattle.tiled.proofs.Accepted.{none-refused, plan-asks, grid-asks, grid-cut}
@@ -143,17 +142,20 @@ sub-left c =
     (plan .plan-of .result) (plan .plan-of .ensures) (grid .grid-of .result) (grid .grid-of .ensures) (now (x .work)) (x .done)
     (c .before .tile-refusal .ensures) (c .if2 .left)
 
+smaller-requires : tie.Need-smaller-requires
+smaller-requires c κs = search needs
+
 run-tiles-requires : tie.Need-run-tiles-requires
 run-tiles-requires c κs =
-    let joined = c .before .before in
-    let all = joined .before in
+    let counted = c .before .before in
+    let all = counted .before in
     let grid = all .before .before in
     let plan = grid .before in
     let ten = plan .before in
     let x = ten .before .before .before .before .before .before .args in
     run-asks (x .c) (x .z) (now (x .a)) (now (x .b)) (now (x .d)) (ten .before .accept-refusal .ensures) (ten .if1 .left)
     (plan .plan-of .result) (plan .plan-of .ensures) (grid .grid-of .result) (grid .grid-of .ensures) (now (x .work)) (x .done)
-    (all .before .tile-refusal .ensures) (all .if2 .left) (x .budget) (joined .if3 .count) (⊎-elim (λ w. omega arith) (λ w. omega arith) (joined .if3 .came))
+    (all .before .tile-refusal .ensures) (all .if2 .left) (x .budget) _ (counted .smaller .ensures)
 
 same-length : tie.Need-same-length
 same-length c = search needs
@@ -164,15 +166,15 @@ same-length-2 c = search needs
 returns-3 : tie.Need-returns-3
 returns-3 c =
     let tiles = c .before .before .before .before in
-    let joined = tiles .before .before .before in
-    let all = joined .before in
+    let counted = tiles .before .before .before in
+    let all = counted .before in
     let grid = all .before .before in
     let plan = grid .before in
     let ten = plan .before in
     let x = ten .before .before .before .before .before .before .args in
     all-ran (x .c) (x .z) (now (x .a)) (now (x .b)) (now (x .d)) (ten .before .accept-refusal .ensures) (ten .if1 .left)
     (plan .plan-of .result) (plan .plan-of .ensures) (grid .grid-of .result) (grid .grid-of .ensures) (now (x .work)) (x .done)
-    (all .before .tile-refusal .ensures) (all .if2 .left) (x .budget) (joined .if3 .count) (⊎-elim (λ w. omega arith) (λ w. omega arith) (joined .if3 .came))
+    (all .before .tile-refusal .ensures) (all .if2 .left) (x .budget) _ (counted .smaller .ensures)
     (tiles .run-tiles .ensures .0) (tiles .run-tiles .ensures .1) (tiles .run-tiles .ensures .2)
 
 pub run-spec : {M : Type 1} → statement M
@@ -186,6 +188,7 @@ run-spec =
     tile-refusal-requires
     returns-2
     sub-left
+    smaller-requires
     run-tiles-requires
     same-length
     same-length-2

@@ -10,20 +10,20 @@ use borrow.Author.Needs.{needs}
 use denote.Ref.{now}
 use Rattle.words.proofs.Sums.{and-split}
 use Rattle.contraction.specs.declared.contraction.Contraction.{Contraction}
-use Rattle.contraction.specs.declared.plan.Plan.{Plan}
 use Rattle.contraction.specs.Operands.{three, tensors, lengths}
-use Rattle.contraction.specs.Questions.{refusal, layoutQuestions}
-use Rattle.contraction.specs.Plan.{Planned}
-use Rattle.contraction.proofs.Refusal.{passed}
 use Rattle.contraction.proofs.SliceLengths.{lengthsOf}
+use Rattle.questions.specs.Questions.{refusal, layoutQuestions}
+use Rattle.questions.proofs.Refusal.{passed}
+use Rattle.plan.specs.declared.plan.Plan.{Plan}
+use Rattle.plan.specs.Plan.{Planned}
 use Rattle.tiles.specs.declared.grid.Sizes.{Sizes}
 use Rattle.tiles.specs.declared.grid.Grid.{Grid}
 use Rattle.tiles.specs.Cut.{Cut}
 use Rattle.tiles.specs.Grid.{cutIn}
 use Rattle.tiles.specs.Progress.{State, stateAt}
-use Rattle.tiled.specs.Setting.{cutOf}
-use Rattle.tiled.specs.Questions.{sizeQuestion, doneQuestion, indexQuestion}
-use Rattle.tiled.specs.Planned.{GridOf}
+use Rattle.tile_blocks.specs.Setting.{cutOf}
+use Rattle.tile_blocks.specs.Planned.{GridOf}
+use Rattle.tile_questions.specs.Questions.{sizeQuestion, doneQuestion, indexQuestion}
 use Rattle.tiled.specs.Call.{is, stateRefused, stateCall}
 use Rattle.tiled.proofs.Answered.{asked, state-early, state-late, state-found}
 use Rattle.tiled.proofs.Accepted.{none-refused, plan-asks, grid-asks, grid-cut}

@@ -1,7 +1,7 @@
 -- `Axes::none` meets its contract: a count of 0 lists nothing.
 -- Assumes nothing.
 use mathlib.Core.Path.{refl}
-use Rattle.layout.specs.Checked.{listed}
+use Rattle.layout.specs.Listed.{listed}
 use Rattle.layout.proofs.axes.Axes.none.Statement.{statement}
 use Rattle.layout.proofs.axes.Axes.none.Tie as tie
 

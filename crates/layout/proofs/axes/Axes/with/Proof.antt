@@ -10,7 +10,7 @@ use lib.ListN.{length, getD, length-set, length-map}
 use Rattle.words.specs.Lists.{firstOf}
 use Rattle.words.proofs.Tabulate.{firstOf-push, firstOf-suc}
 use Rattle.layout.specs.Layout.{noAxis, axes}
-use Rattle.layout.specs.Checked.{listed}
+use Rattle.layout.specs.Listed.{listed}
 use Rattle.layout.proofs.axes.Axes.with.Statement.{statement}
 use Rattle.layout.proofs.axes.Axes.with.Tie as tie
 

@@ -4,7 +4,7 @@ use mathlib.Core.Path.{refl}
 use Prim.Native.Nat.{ℕ, _+_, _*_, _<_}
 use native.Mathlib.Omega.{arith}
 use borrow.Author.Needs.{needs}
-use Rattle.layout.specs.Limits.{productLimit}
+use Rattle.limits.specs.Limits.{productLimit}
 use Rattle.tiles.specs.declared.grid.Grid.{Grid}
 use Rattle.tiles.specs.Cut.{NB, KB, MB, number}
 use Rattle.tiles.specs.Grid.{cutIn, Counted}

@@ -6,7 +6,7 @@ use mathlib.Core.Logic.{⊎-elim}
 use Prim.Native.Nat.{ℕ, _*_, _≤_}
 use native.Mathlib.Omega.{arith}
 use borrow.Author.Needs.{needs}
-use Rattle.layout.specs.Limits.{productLimit}
+use Rattle.limits.specs.Limits.{productLimit}
 use Rattle.tiles.specs.Cut.{Cut, cutBy, MB, NB, KB, total}
 use Rattle.tiles.specs.Grid.{Fits}
 use Rattle.tiles.proofs.Sizes.{M-small, N-small, K-small, columns-small, strips-small, total-small}

@@ -1,6 +1,0 @@
-pub mod Steps
-pub mod Fronts
-pub mod Packing
-pub mod Lanes
-pub mod Columns
-pub mod Stores

@@ -1,4 +1,0 @@
-pub mod Packed
-pub mod Kernel
-pub mod Block
-pub mod Needs

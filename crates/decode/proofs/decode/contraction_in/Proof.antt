@@ -1,0 +1,25 @@
+-- `contraction_in` meets its contract: each layout is the one at its part of the file, and `Contraction::new` puts them together.
+-- Assumes nothing.
+use borrow.Author.Needs.{needs}
+use Rattle.decode.proofs.decode.contraction_in.Statement.{statement}
+use Rattle.decode.proofs.decode.contraction_in.Tie as tie
+
+layout-in-requires : tie.Need-layout-in-requires
+layout-in-requires c κs = search needs
+
+layout-in-requires-2 : tie.Need-layout-in-requires-2
+layout-in-requires-2 c κs = search needs
+
+layout-in-requires-3 : tie.Need-layout-in-requires-3
+layout-in-requires-3 c κs = search needs
+
+new-requires : tie.Need-new-requires
+new-requires c κs = search needs
+
+returns : tie.Need-returns
+returns c = rw (c .new .ensures, c .before .before .before .layout-in .ensures, c .before .before .layout-in2 .ensures, c .before .layout-in3 .ensures)
+
+pub contraction-in-spec : {M : Type 1} → statement M
+contraction-in-spec =
+    tie.close
+    (tie.spec layout-in-requires layout-in-requires-2 layout-in-requires-3 new-requires returns)

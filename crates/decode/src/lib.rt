@@ -1,0 +1,2 @@
+// A job's layouts, words and contraction, taken from its file's bytes.
+pub mod decode;

@@ -1,0 +1,116 @@
+-- `run_sum` meets its contract. The loop's invariant: v is at most `len`, i and j are v steps from where A and B begin, and the sum is the word of the dot product up to v.
+-- The measure is how many places are left.
+-- Assumes nothing.
+use mathlib.Core.Path.{_≡_, refl}
+use mathlib.Core.List.{List}
+use Prim.Native.Nat.{ℕ, _+_, _*_, _-_, _^_, _≤_, _<_}
+use native.Mathlib.Numerals.{add-one}
+use native.Mathlib.Omega.{arith}
+use lib.ListN.{getD}
+use Rattle.words.specs.Words.{word}
+use Rattle.words.specs.Sums.{sumTo}
+use Rattle.words.specs.Loops.{Within}
+use Rattle.words.proofs.Modular.{word-sum}
+use Rattle.direct.specs.Walk.{stepped, dot}
+use Rattle.direct.proofs.sum.run_sum.Statement.{statement}
+use Rattle.direct.proofs.sum.run_sum.Tie as tie
+
+-- an address word that is the place of a count
+placed : {n : ℕ} {place : ℕ → ℕ} {len i v : ℕ} → Within n place len → i ≡ place v → v < n → i < len
+placed {v = v} w e h = rw e (w .each v h)
+
+-- no step from an address word
+at-first : {x : ℕ} (s : ℕ) → x < 2 ^ 64 → x ≡ stepped x s 0
+at-first s h = omega arith
+
+-- a turn of the loop: one step more, and one product more
+next : (x s v : ℕ) {i r : ℕ} → i ≡ stepped x s v → r ≡ word 64 (i + s) → r ≡ stepped x s (v + 1)
+next x s v e q = omega arith
+
+turn : (a b : List ℕ) (f g : ℕ → ℕ) (v : ℕ) {i j sum p r : ℕ}
+    → i ≡ f v → j ≡ g v → sum ≡ word 32 (dot v f a g b) → p ≡ word 32 (getD a i 0 * getD b j 0) → r ≡ word 32 (sum + p)
+    → r ≡ word 32 (dot (v + 1) f a g b)
+unfolding dot
+turn a b f g v ei ej es ep er = rw (er, es, ep, ei, ej, add-one) (word-sum 32 v (λ k. getD a (f k) 0 * getD b (g k) 0))
+
+abbrev Inv-loop : tie.InvT-loop
+Inv-loop a b len step-a step-b i₀ j₀ sum₀ v₀ i j sum v =
+    (v ≤ len) × (i ≡ stepped i₀ step-a v) × (j ≡ stepped j₀ step-b v) × (sum ≡ word 32 (dot v (stepped i₀ step-a) a (stepped j₀ step-b) b))
+
+abbrev μ-loop : tie.MeasureT-loop
+μ-loop a b len step-a step-b i₀ j₀ sum₀ v₀ i j sum v = len - v
+
+loop-holds : tie.Need-loop-holds Inv-loop μ-loop
+unfolding dot sumTo
+loop-holds c =
+    let s = c .before .before .args in
+    let ha : s .from .a < 2 ^ 64 = omega arith in
+    let hb : s .from .b < 2 ^ 64 = omega arith in
+    (omega arith, at-first (s .step .a) ha, at-first (s .step .b) hb, refl)
+
+mul-mul : tie.Need-mul-mul Inv-loop μ-loop
+mul-mul c = omega (arith, placed (c .before .before .before .before .pre .0) (c .before .loop .inv .1) (omega arith))
+
+shared-slice-read-mul : tie.Need-shared-slice-read-mul Inv-loop μ-loop
+shared-slice-read-mul c = placed (c .before .before .before .before .before .pre .0) (c .before .before .loop .inv .1) (omega arith)
+
+mul-mul-2 : tie.Need-mul-mul-2 Inv-loop μ-loop
+mul-mul-2 c = omega (arith, placed (c .before .before .before .before .before .pre .1) (c .before .before .loop .inv .2) (omega arith))
+
+shared-slice-read-mul-2 : tie.Need-shared-slice-read-mul-2 Inv-loop μ-loop
+shared-slice-read-mul-2 c = placed (c .before .before .before .before .before .before .pre .1) (c .before .before .before .loop .inv .2) (omega arith)
+
+mul-requires : tie.Need-mul-requires Inv-loop μ-loop
+mul-requires c κs = tt
+
+wrapping-add-u32-requires : tie.Need-wrapping-add-u32-requires Inv-loop μ-loop
+wrapping-add-u32-requires c κs = tt
+
+wrapping-add-u64-requires : tie.Need-wrapping-add-u64-requires Inv-loop μ-loop
+wrapping-add-u64-requires c κs = tt
+
+wrapping-add-u64-requires-2 : tie.Need-wrapping-add-u64-requires-2 Inv-loop μ-loop
+wrapping-add-u64-requires-2 c κs = tt
+
+add-v : tie.Need-add-v Inv-loop μ-loop
+add-v c = omega arith
+
+loop-less : tie.Need-loop-less Inv-loop μ-loop
+loop-less c = omega arith
+
+loop-again : tie.Need-loop-again Inv-loop μ-loop
+loop-again c =
+    let s = c .before .before .before .before .before .before .before .before .before .before .args in
+    let l = c .before .before .before .before .before .before .before .loop in (
+      omega arith,
+      next (s .from .a) (s .step .a) (l .v) (l .inv .1) (c .before .wrapping-add-u64 .ensures),
+      next (s .from .b) (s .step .b) (l .v) (l .inv .2) (c .wrapping-add-u642 .ensures),
+      turn (s .a .now) (s .b .now) (stepped (s .from .a) (s .step .a)) (stepped (s .from .b) (s .step .b)) (l .v)
+          (l .inv .1) (l .inv .2) (l .inv .3) (c .before .before .before .mul .ensures) (c .before .before .wrapping-add-u32 .ensures),
+    )
+
+returns : tie.Need-returns Inv-loop μ-loop
+returns c =
+    let l = c .before .loop in
+    let z : l .v ≡ c .before .before .before .before .args .len = omega arith in
+    rw z at (l .inv .3)
+
+pub run-sum-spec : {M : Type 1} → statement M
+run-sum-spec =
+    tie.close
+    (tie.spec
+    Inv-loop
+    μ-loop
+    loop-holds
+    mul-mul
+    shared-slice-read-mul
+    mul-mul-2
+    shared-slice-read-mul-2
+    mul-requires
+    wrapping-add-u32-requires
+    wrapping-add-u64-requires
+    wrapping-add-u64-requires-2
+    add-v
+    loop-less
+    loop-again
+    returns)

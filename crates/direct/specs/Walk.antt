@@ -1,0 +1,73 @@
+-- What the loops of the plain engine leave, by address words. Inside contracts only.
+-- Assumes nothing.
+use Prim.Native.Nat.{ℕ, _+_, _*_, _<_, _≤_}
+use mathlib.Core.Path.{_≡_}
+use mathlib.Core.List.{List}
+use lib.ListN.{length, getD}
+use Rattle.words.specs.Sums.{sumTo}
+use Rattle.words.specs.Words.{word, wordOf}
+use Rattle.words.specs.Loops.{put, Within}
+use Rattle.limits.specs.Limits.{axesLimit}
+use Rattle.contraction.specs.Operands.{Operand, A, B, D}
+use Rattle.groups.specs.Groups.{Label, size}
+use Rattle.groups.specs.Held.{labelsIn}
+use Rattle.groups.specs.Foldable.{Foldable}
+use Rattle.offsets.specs.Counts.{offsetIn}
+use Rattle.offsets.specs.declared.offsets.Offsets.{Offsets}
+use Rattle.offsets.specs.Offsets.{wordsIn}
+use Rattle.offsets.specs.Lead.{lead}
+use Rattle.meaning.specs.Meaning.{combined}
+use Rattle.direct.specs.declared.walk.Walk.{Walk}
+
+-- the address word v steps from x
+abbrev pub stepped : ℕ → ℕ → ℕ → ℕ
+stepped x s v = word 64 (x + v * s)
+
+-- the address word in a tensor at a count of a group, from x
+abbrev pub reached : Operand → ℕ → List Label → ℕ → ℕ
+reached o x g n = word 64 (x + offsetIn (wordOf 64) o g n)
+
+-- the address word in each tensor, v steps from where it stands
+abbrev pub steps : Offsets → Offsets → ℕ → Operand → ℕ
+steps from step v o = stepped (wordsIn from o) (wordsIn step o) v
+
+-- the address word in each tensor at a count of a group
+abbrev pub places : Offsets → List Label → ℕ → Operand → ℕ
+places base g n o = reached o (wordsIn base o) g n
+
+-- Σ over the counts below n of a's word × b's word
+unfoldable pub dot : ℕ → (ℕ → ℕ) → List ℕ → (ℕ → ℕ) → List ℕ → ℕ
+dot n i a j b = sumTo n (λ k. getD a (i k) 0 * getD b (j k) 0)
+
+-- the sum over the counts of the depth group g, from an address word of each tensor
+unfoldable pub sumFrom : List Label → List ℕ → List ℕ → (Operand → ℕ) → ℕ
+sumFrom g a b at = dot (size g) (reached A (at A) g) a (reached B (at B) g) b
+
+-- D's words with the one at an output's address word filled
+unfoldable pub filled : ℕ → ℕ → List Label → List ℕ → List ℕ → (Operand → ℕ) → List ℕ → List ℕ
+filled alpha beta g a b at = put (combined alpha beta (sumFrom g a b at)) (at D)
+
+-- ---- what the loops may assume
+
+-- from an address word of each tensor, all that the sum over the depth group g reads is inside
+pub record Readable (g : List Label) (a b : List ℕ) (at : Operand → ℕ) : Type 0 where
+  pub inA : Within (size g) (reached A (at A) g) (length a)
+  pub inB : Within (size g) (reached B (at B) g) (length b)
+
+-- from the address words of each count below n, all that is read is inside, and the place that is written is one of a list of that length
+pub record Clear (n : ℕ) (at : ℕ → Operand → ℕ) (g : List Label) (a b : List ℕ) (len : ℕ) : Type 0 where
+  pub reads : (v : ℕ) → v < n → Readable g a b (at v)
+  pub writes : Within n (λ v. at v D) len
+
+-- the labels that a walk goes over
+abbrev pub over : Walk → List Label
+over w = labelsIn (w .group)
+
+-- the code's walk goes over the group in runs of its first label
+pub record Walks (g : List Label) (w : Walk) : Type 0 where
+  pub labels : over w ≡ g
+  pub few : w .group .count ≤ axesLimit
+  pub foldable : Foldable g
+  pub len : w .len ≡ lead g .extent
+  pub step : (o : Operand) → wordsIn (w .step) o ≡ wordOf 64 (lead g .stride o)
+  pub counts : size g ≡ w .len * w .runs

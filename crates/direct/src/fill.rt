@@ -1,0 +1,69 @@
+ghost use mathlib.Core.Path.{_≡_};
+ghost use lib.ListN.{length};
+ghost use Rattle.words.specs.Loops.{each};
+ghost use Rattle.groups.specs.Groups.{size};
+ghost use Rattle.meaning.specs.Meaning.{combined};
+ghost use Rattle.direct.specs.Walk.{steps, places, over, filled, Walks, Clear};
+use super::sum::depth_sum;
+use super::walk::Walk;
+use offsets::offsets::Offsets;
+
+// alpha × a sum + beta × the old word.
+fn combine(alpha: u32, sum: u32, beta: u32, old: u32) -> u32
+    ensures { λ r. ⌜ r ≡ combined alpha beta sum old ⌝ }
+{
+    std::num::wrapping_add_u32(words::mul(alpha, sum), words::mul(beta, old))
+}
+
+// The words of D along a run of output counts: `len` places, each a step from the one before.
+fn fill_run(
+    a: &[u32],
+    b: &[u32],
+    d: &mut [u32],
+    alpha: u32,
+    beta: u32,
+    from: Offsets,
+    step: Offsets,
+    len: u32,
+    depth: Walk,
+)
+    requires { ⌜ Walks (over depth) depth × Clear len (steps from step) (over depth) (now a) (now b) (length (now d)) ⌝ }
+    ensures { λ _. ⌜ now (d .exit) ≡ each len (λ v. filled alpha beta (over depth) (now (a .entry)) (now (b .entry)) (steps from step v)) (now (d .entry)) ⌝ }
+{
+    let mut at = from;
+    let mut v: u32 = 0;
+    while v < len {
+        let sum = depth_sum(a, b, at, depth);
+        let place = at.d as usize;
+        let old = d[place];
+        d[place] = combine(alpha, sum, beta, old);
+        at = at.plus(step);
+        v += 1;
+    }
+}
+
+// Every word of D that an output count addresses.
+pub fn fill(
+    a: &[u32],
+    b: &[u32],
+    d: &mut [u32],
+    alpha: u32,
+    beta: u32,
+    base: Offsets,
+    output: Walk,
+    depth: Walk,
+)
+    requires { ⌜ Walks (over output) output × Walks (over depth) depth × Clear (size (over output)) (places base (over output)) (over depth) (now a) (now b) (length (now d)) ⌝ }
+    ensures { λ _. ⌜ now (d .exit) ≡ each (size (over output)) (λ m. filled alpha beta (over depth) (now (a .entry)) (now (b .entry)) (places base (over output) m)) (now (d .entry)) ⌝ }
+{
+    let group = output.group;
+    let step = output.step;
+    let len = output.len;
+    let runs = output.runs;
+    let mut m: u32 = 0;
+    while m < runs {
+        let at = base.plus(Offsets::of(group, len * m));
+        fill_run(a, b, d, alpha, beta, at, step, len, depth);
+        m += 1;
+    }
+}

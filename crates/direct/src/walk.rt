@@ -1,0 +1,31 @@
+ghost use Prim.Native.Nat.{_≤_};
+ghost use Rattle.limits.specs.Limits.{axesLimit};
+ghost use Rattle.groups.specs.Held.{labelsIn};
+ghost use Rattle.groups.specs.Foldable.{Foldable};
+ghost use Rattle.direct.specs.Walk.{Walks};
+use groups::groups::Group;
+use offsets::lead::Lead;
+use offsets::offsets::Offsets;
+
+// A group and how its counts are walked: in runs of its first label, `len` counts each, one step apart.
+pub struct Walk {
+    pub group: Group,
+    pub step: Offsets,
+    pub len: u32,
+    pub runs: u32,
+}
+
+pub fn walk_of(g: Group) -> Walk
+    requires { ⌜ (g .count ≤ axesLimit) × Foldable (labelsIn g) ⌝ }
+    ensures { λ r. ⌜ Walks (labelsIn g) r ⌝ }
+{
+    let lead = Lead::of(g);
+    let step = lead.step;
+    let runs = if g.count == 0 { 1 } else { g.size_from(1) };
+    Walk {
+        group: g,
+        step,
+        len: lead.len,
+        runs,
+    }
+}

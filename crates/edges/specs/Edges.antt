@@ -1,0 +1,78 @@
+-- The ten small cases of the rules that are proved, as one table, each quoted above its rows. Strides 1, beta 0, alpha 1 unless given.
+-- Assumes nothing.
+use Prim.Native.Nat.{ℕ}
+use mathlib.Core.Path.{_≡_}
+use mathlib.Core.List.{List, [], _∷_, map}
+use lib.IntN.{ℤ, pos, negsuc}
+use Rattle.layout.specs.declared.layout.Layout.{Layout}
+use Rattle.layout.specs.Layout.{layoutOf}
+use Rattle.contraction.specs.declared.contraction.Contraction.{Contraction}
+use Rattle.contraction.specs.Operands.{three, contractionOf}
+use Rattle.groups.specs.Groups.{Label}
+use Rattle.folding.specs.Fold.{fold}
+use Rattle.meaning.specs.Meaning.{Slices, firstNo, result}
+use Rattle.block.specs.Block.{Step, even, scattered, classify}
+
+-- a row of the table
+pub data Edge : Type 0 where
+  gives : Contraction → Slices → List ℕ → Edge  -- accepted, and D's words afterwards
+  folds : List Label → List ℕ → Edge  -- the extents of the folded labels
+  spaced : List ℕ → Step → Edge  -- the step of a block of offsets
+  answers : Contraction → Slices → ℕ → Edge  -- the number that questions 1 to 9 answer
+
+abbrev pub Holds : Edge → Type 0
+Holds (gives c w ws) = (firstNo c w ≡ 0) × (result c w ≡ ws)
+Holds (folds g es) = map (λ l. l .extent) (fold g) ≡ es
+Holds (spaced xs s) = classify xs ≡ s
+Holds (answers c w n) = firstNo c w ≡ n
+
+-- no letters; one letter `i`; letters `i` and `j`
+abbrev scalar : Layout
+scalar = layoutOf [] [] [] 0
+
+abbrev vector : ℕ → ℤ → ℕ → Layout
+vector e s base = layoutOf (105 ∷ []) (e ∷ []) (s ∷ []) base
+
+abbrev matrix : ℕ → ℤ → ℕ → ℤ → Layout
+matrix e s f u = layoutOf (105 ∷ 106 ∷ []) (e ∷ f ∷ []) (s ∷ u ∷ []) 0
+
+-- the letter `i` twice
+abbrev diagonal : ℕ → ℤ → ℕ → ℤ → Layout
+diagonal e s f u = layoutOf (105 ∷ 105 ∷ []) (e ∷ f ∷ []) (s ∷ u ∷ []) 0
+
+-- alpha 1, beta 0
+abbrev plain : Layout → Layout → Layout → Contraction
+plain a b d = contractionOf a b d 1 0
+
+-- a label with one stride in every tensor
+abbrev lab : ℕ → ℕ → ℤ → Label
+lab c e s = record { letter = c; extent = e; stride = λ o. s }
+
+abbrev pub edges : List Edge
+edges =
+    -- 1. No letters, A 3, B 5, D 7, alpha 2, beta 1: 37.
+    gives (contractionOf scalar scalar scalar 2 1) (three (3 ∷ []) (5 ∷ []) (7 ∷ [])) (37 ∷ [])
+    -- 2. A and B 4294967295: 1.
+    ∷ gives (plain scalar scalar scalar) (three (4294967295 ∷ []) (4294967295 ∷ []) (0 ∷ [])) (1 ∷ [])
+    -- 3. A `i` 1 2 3, B 10 without letters, D without: 60.
+    ∷ gives (plain (vector 3 (pos 1) 0) scalar scalar) (three (1 ∷ 2 ∷ 3 ∷ []) (10 ∷ []) (0 ∷ [])) (60 ∷ [])
+    -- 4. A 2, B 3, D `i` extent 2: 6 6.
+    ∷ gives (plain scalar scalar (vector 2 (pos 1) 0)) (three (2 ∷ []) (3 ∷ []) (0 ∷ 0 ∷ [])) (6 ∷ 6 ∷ [])
+    -- 5. A `ii` extents 2 2 strides 1 2 words 1 2 3 4, B 1: 5.
+    ∷ gives (plain (diagonal 2 (pos 1) 2 (pos 2)) scalar scalar) (three (1 ∷ 2 ∷ 3 ∷ 4 ∷ []) (1 ∷ []) (0 ∷ [])) (5 ∷ [])
+    -- 6. `i,i` to `i`, 2 3 and 5 7: 10 21.
+    ∷ gives (plain (vector 2 (pos 1) 0) (vector 2 (pos 1) 0) (vector 2 (pos 1) 0)) (three (2 ∷ 3 ∷ []) (5 ∷ 7 ∷ []) (0 ∷ 0 ∷ [])) (10 ∷ 21 ∷ [])
+    -- 7. A `i`, base 2, stride -1, words 1 2 3; B `i` 1 0 0; D scalar: 3.
+    ∷ gives (plain (vector 3 (negsuc 0) 2) (vector 3 (pos 1) 0) scalar) (three (1 ∷ 2 ∷ 3 ∷ []) (1 ∷ 0 ∷ 0 ∷ []) (0 ∷ [])) (3 ∷ [])
+    -- 8. Extents 2 3: strides 1 2 fold to extent 6, 1 3 don't fold.
+    ∷ folds (lab 105 2 (pos 1) ∷ lab 106 3 (pos 2) ∷ []) (6 ∷ [])
+    ∷ folds (lab 105 2 (pos 1) ∷ lab 106 3 (pos 3) ∷ []) (2 ∷ 3 ∷ [])
+    -- 9. Offsets 4 4 4 are even, step 0; 0 1 3 scattered.
+    ∷ spaced (4 ∷ 4 ∷ 4 ∷ []) (even 0)
+    ∷ spaced (0 ∷ 1 ∷ 3 ∷ []) scattered
+    -- 10. D extents 3 2, strides 2 3: refused 9, though no words meet; strides 1 3 accepted. Stride 0: 9 at extent 2, accepted at 1.
+    ∷ answers (plain scalar scalar (matrix 3 (pos 2) 2 (pos 3))) (three (1 ∷ []) (1 ∷ []) (0 ∷ 0 ∷ 0 ∷ 0 ∷ 0 ∷ 0 ∷ 0 ∷ 0 ∷ [])) 9
+    ∷ answers (plain scalar scalar (matrix 3 (pos 1) 2 (pos 3))) (three (1 ∷ []) (1 ∷ []) (0 ∷ 0 ∷ 0 ∷ 0 ∷ 0 ∷ 0 ∷ [])) 0
+    ∷ answers (plain scalar scalar (vector 2 (pos 0) 0)) (three (1 ∷ []) (1 ∷ []) (0 ∷ [])) 9
+    ∷ answers (plain scalar scalar (vector 1 (pos 0) 0)) (three (1 ∷ []) (1 ∷ []) (0 ∷ [])) 0
+    ∷ []

@@ -1,0 +1,6 @@
+pub mod Bounds
+pub mod ByLabel
+pub mod Injective
+pub mod Reach
+pub mod Stride
+pub mod StridesApart

@@ -1,0 +1,77 @@
+-- `sum_below` meets its contract. The loop goes from the last label to the first, as `total` does; its invariant: the sum so far is that of
+-- the labels from i on, and at most 2^48 for each of them, so it fits. The measure is i.
+-- Assumes nothing.
+use mathlib.Core.Path.{_≡_}
+use mathlib.Core.Bool.{not, cond, _&&_}
+use Prim.Native.Nat.{_*_, _-_, _^_, _≤_}
+use native.Mathlib.Omega.{arith}
+use lib.Dec.{eqb, leb}
+use Rattle.words.specs.Sums.{total}
+use Rattle.words.proofs.Tabulate.{from, from-end, from-before}
+use Rattle.layout.specs.Listed.{listed}
+use Rattle.labels.specs.Labels.{extentOf}
+use Rattle.labels.specs.LetterSets.{spelled}
+use Rattle.entries.specs.Questions.{strideSize, below}
+use Rattle.entries.proofs.apart.sum_below.Statement.{statement}
+use Rattle.entries.proofs.apart.sum_below.Tie as tie
+
+abbrev Inv-loop : tie.InvT-loop
+Inv-loop x c letters i₀ sum₀ i sum =
+    (i ≤ i₀)
+    × (sum
+    ≡ total
+    (λ d. cond (not (eqb c d) && leb (strideSize (listed x) d) (strideSize (listed x) c)) ((extentOf d (listed x) - 1) * strideSize (listed x) d) 0)
+    (from 0 letters i₀ i))
+    × (sum ≤ (i₀ - i) * 2 ^ 48)
+
+abbrev μ-loop : tie.MeasureT-loop
+μ-loop x c letters i₀ sum₀ i sum = i
+
+loop-holds : tie.Need-loop-holds Inv-loop μ-loop
+loop-holds c = let all = c .before .args .all in (omega arith, rw (from-end 0 (all .letters) (all .count)), omega arith)
+
+sub-i : tie.Need-sub-i Inv-loop μ-loop
+sub-i c = omega arith
+
+array-read-share : tie.Need-array-read-share Inv-loop μ-loop
+array-read-share c = omega (arith, c .before .before .before .pre .1 .few)
+
+share-requires : tie.Need-share-requires Inv-loop μ-loop
+share-requires c κs = c .before .before .before .pre .0
+
+add-sum : tie.Need-add-sum Inv-loop μ-loop
+add-sum c = omega (arith, c .before .before .before .before .pre .1 .few)
+
+loop-less : tie.Need-loop-less Inv-loop μ-loop
+loop-less c = omega arith
+
+loop-again : tie.Need-loop-again Inv-loop μ-loop
+loop-again c =
+    let l = c .before .before .loop in
+    let all = c .before .before .before .before .args .all in (
+      omega arith,
+      rw (c .share .ensures .0, l .inv .1, from-before 0 (all .letters) (all .count) (l .i) (omega arith) (omega arith)),
+      omega arith,
+    )
+
+returns : tie.Need-returns Inv-loop μ-loop
+unfolding below spelled
+returns c =
+    let l = c .before .loop in
+    let z : l .i ≡ 0 = omega arith in
+    rw (l .inv .1, z, ← c .before .before .before .pre .1 .spells)
+
+pub sum-below-spec : {M : Type 1} → statement M
+sum-below-spec =
+    tie.close
+    (tie.spec
+    Inv-loop
+    μ-loop
+    loop-holds
+    sub-i
+    array-read-share
+    share-requires
+    add-sum
+    loop-less
+    loop-again
+    returns)

@@ -1,0 +1,69 @@
+ghost use mathlib.Core.Path.{_≡_};
+ghost use mathlib.Core.Bool.{not, cond, _&&_};
+ghost use Prim.Native.Nat.{_+_, _*_, _-_, _^_, _<_};
+ghost use lib.Dec.{eqb, leb};
+ghost use Rattle.layout.specs.Listed.{listed};
+ghost use Rattle.validity.specs.Checked.{Checked};
+ghost use Rattle.labels.specs.Labels.{labels, extentOf};
+ghost use Rattle.labels.specs.LetterSets.{Spells};
+ghost use Rattle.entries.specs.Questions.{strideSize, below, apart};
+use labels::labels::extent_of;
+use labels::labels::last_index;
+use labels::labels::stride_of;
+use labels::letters::Letters;
+use labels::letters::letters_of;
+use layout::axes::Axes;
+
+// The size of a letter's stride.
+fn stride_size(x: Axes, c: u8) -> u64
+    requires { ⌜ Checked x ⌝ }
+    ensures { λ r. ⌜ (r ≡ strideSize (listed x) c) × (r < 2 ^ 32) ⌝ }
+{
+    let word = stride_of(x, c);
+    words::up(word) + words::down(word)
+}
+
+// What the label d adds to the sum that c's stride size has to exceed.
+fn share(x: Axes, c: u8, d: u8) -> u64
+    requires { ⌜ Checked x ⌝ }
+    ensures { λ r. ⌜ (r ≡ cond (not (eqb c d) && leb (strideSize (listed x) d) (strideSize (listed x) c)) ((extentOf d (listed x) - 1) * strideSize (listed x) d) 0) × (r < 2 ^ 48) ⌝ }
+{
+    let size = stride_size(x, d);
+    if (c != d) & (size <= stride_size(x, c)) {
+        last_index(extent_of(x, d)) * size
+    } else {
+        0
+    }
+}
+
+// The sum that c's stride size has to exceed.
+fn sum_below(x: Axes, all: Letters, c: u8) -> u64
+    requires { ⌜ Checked x × Spells all (labels (listed x)) ⌝ }
+    ensures { λ r. ⌜ r ≡ below (listed x) c ⌝ }
+{
+    let letters = all.letters;
+    let mut i = all.count;
+    let mut sum: u64 = 0;
+    while 0 < i {
+        i -= 1;
+        sum = share(x, c, letters[i]) + sum;
+    }
+    sum
+}
+
+// Question 9.
+pub fn all_apart(x: Axes) -> bool
+    requires { ⌜ Checked x ⌝ }
+    ensures { λ r. ⌜ r ≡ apart (listed x) ⌝ }
+{
+    let all = letters_of(x);
+    let letters = all.letters;
+    let mut i = all.count;
+    let mut apart = true;
+    while 0 < i {
+        i -= 1;
+        let c = letters[i];
+        apart = ((extent_of(x, c) <= 1) | (sum_below(x, all, c) < stride_size(x, c))) & apart;
+    }
+    apart
+}

@@ -1,0 +1,61 @@
+ghost use mathlib.Core.Path.{_≡_};
+ghost use Prim.Native.Nat.{_+_, _*_, _-_, _^_, _<_, _≤_};
+ghost use Rattle.words.specs.Words.{up, down, signed};
+ghost use Rattle.limits.specs.Limits.{extentLimit};
+ghost use Rattle.layout.specs.Listed.{listed};
+ghost use Rattle.validity.specs.Checked.{Checked};
+ghost use Rattle.entries.specs.Questions.{span, inside};
+use labels::labels::extent_of;
+use labels::labels::last_index;
+use labels::labels::stride_of;
+use labels::letters::letters_of;
+use layout::axes::Axes;
+
+// How far the entries of a tensor reach above and below its base.
+pub struct Reach {
+    pub up: u64,
+    pub down: u64,
+}
+
+impl Reach {
+    // The reach with one label more.
+    fn with(self, extent: u32, stride: u64) -> Reach
+        requires { ⌜ (self .up < 2 ^ 60) × (self .down < 2 ^ 60) × (extent ≤ extentLimit) × (up (signed 64 stride) < 2 ^ 32) × (down (signed 64 stride) < 2 ^ 32) ⌝ }
+        ensures { λ r. ⌜ (r .up ≡ (extent - 1) * up (signed 64 stride) + self .up) × (r .down ≡ (extent - 1) * down (signed 64 stride) + self .down) ⌝ }
+    {
+        let last = last_index(extent);
+        let above = last * words::up(stride);
+        let below = last * words::down(stride);
+        Reach {
+            up: above + self.up,
+            down: below + self.down,
+        }
+    }
+}
+
+pub fn reach_of(x: Axes) -> Reach
+    requires { ⌜ Checked x ⌝ }
+    ensures { λ r. ⌜ (r .up ≡ span up (listed x)) × (r .down ≡ span down (listed x)) × (r .up < 2 ^ 60) × (r .down < 2 ^ 60) ⌝ }
+{
+    let all = letters_of(x);
+    let letters = all.letters;
+    let mut i = all.count;
+    let mut reach = Reach { up: 0, down: 0 };
+    while 0 < i {
+        i -= 1;
+        let c = letters[i];
+        reach = reach.with(extent_of(x, c), stride_of(x, c));
+    }
+    reach
+}
+
+// Question 8.
+pub fn all_inside(x: Axes, base: u32, length: usize) -> bool
+    requires { ⌜ Checked x ⌝ }
+    ensures { λ r. ⌜ r ≡ inside (listed x) base length ⌝ }
+{
+    let reach = reach_of(x);
+    let start = base as u64;
+    let end = length as u64;
+    (reach.down <= start) & (start + reach.up < end)
+}

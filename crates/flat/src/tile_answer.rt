@@ -1,0 +1,37 @@
+ghost use mathlib.Core.Path.{_≡_};
+ghost use Rattle.tiled.specs.Call.{tileAnswer, doneIn};
+ghost use Rattle.flat.specs.FlatTiles.{tileNumber, saidComplete};
+use tiled::call::Outcome;
+
+// An outcome as a number: 0 where the call ran.
+pub fn number_of(outcome: Outcome) -> u32
+    ensures { λ r. ⌜ r ≡ tileNumber (tileAnswer outcome) ⌝ }
+{
+    match outcome {
+        Outcome::Ran {
+            done: _,
+            complete: _,
+        } => 0,
+        Outcome::Refused { number, done: _ } => number,
+    }
+}
+
+// The tiles done after the call.
+pub fn done_of(outcome: Outcome) -> u64
+    ensures { λ r. ⌜ r ≡ doneIn (tileAnswer outcome) ⌝ }
+{
+    match outcome {
+        Outcome::Ran { done, complete: _ } => done,
+        Outcome::Refused { number: _, done } => done,
+    }
+}
+
+// 1 where all tiles are done, 0 where not, or where the call was refused.
+pub fn complete_of(outcome: Outcome) -> u32
+    ensures { λ r. ⌜ r ≡ saidComplete (tileAnswer outcome) ⌝ }
+{
+    match outcome {
+        Outcome::Ran { done: _, complete } => { if complete { 1 } else { 0 } }
+        Outcome::Refused { number: _, done: _ } => 0,
+    }
+}

@@ -1,0 +1,2 @@
+pub mod FoldKeeps
+pub mod Folding

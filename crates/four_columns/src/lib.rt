@@ -1,0 +1,2 @@
+// The kernel for four columns that stand side by side.
+pub mod columns;

@@ -1,0 +1,2 @@
+pub mod LabelLists
+pub mod Sets

@@ -1,0 +1,117 @@
+-- The four groups as sets of letters: of the letters of all tensors together, each set has just those of its group.
+-- Assumes nothing.
+use mathlib.Core.Path.{_≡_, refl, sym, _∙_}
+use mathlib.Core.Bool.{Bool, true, false, not, _&&_, _||_, true≢false}
+use mathlib.Core.List.{_++_, map, map-append}
+use Prim.Native.Nat.{ℕ}
+use lib.Dec.{eqb}
+use Rattle.words.specs.Sums.{All}
+use Rattle.words.specs.Lists.{keep, member}
+use Rattle.words.proofs.Lists.{T-true, all-imp, all-both, all-map, distinct-members, all-once, keep-ext, member-append, member-once}
+use Rattle.words.proofs.Sums.{every-all}
+use Rattle.layout.specs.declared.layout.Axis.{Axis}
+use Rattle.layout.specs.Layout.{lettersOf}
+use Rattle.layout.specs.Listed.{listed}
+use Rattle.validity.specs.Letters.{isLetter}
+use Rattle.validity.specs.Questions.{lettersValid}
+use Rattle.labels.specs.declared.letters.Letters.{Letters}
+use Rattle.labels.specs.Labels.{labels}
+use Rattle.labels.specs.LetterSets.{has, Spells}
+use Rattle.contraction.specs.declared.operands.Operands.{Operands}
+use Rattle.contraction.specs.Operands.{Operand, A, B, D, together}
+use Rattle.contraction.specs.Lists.{shapeOf, Gathered}
+use Rattle.groups.specs.declared.groups.Sets.{Sets}
+use Rattle.groups.specs.Groups.{Group, batch, row, column, depth, groupBy, groupOf, number, inGroup, group, outputs, label, letters}
+use Rattle.groups.specs.Sets.{Split}
+
+-- ---- the four sets
+
+-- the code's set for each of the four groups
+abbrev pub setsIn : Sets → Group → ℕ
+setsIn r batch = r .batch
+setsIn r row = r .row
+setsIn r column = r .column
+setsIn r depth = r .depth
+
+-- does a group's set have a letter, by whether A, B and D have it
+abbrev pub inSet : Group → Bool → Bool → Bool → Bool
+inSet batch a b d = (a && b) && d
+inSet column a b d = (b && d) && not a
+inSet row a b d = d && not (((a && b) && d) || ((b && d) && not a))
+inSet depth a b d = (a || b) && not d
+
+pub split-set : (a b d : ℕ) (r : Sets) → Split a b d r → (g : Group) (c : ℕ) → has (setsIn r g) c ≡ inSet g (has a c) (has b c) (has d c)
+split-set a b d r s batch c = s .batch c
+split-set a b d r s row c = rw (s .row c, s .batch c, s .column c)
+split-set a b d r s column c = s .column c
+split-set a b d r s depth c = s .depth c
+
+of-each : (P : Group → Type 0) → P batch → P row → P column → P depth → (g : Group) → P g
+of-each P b r c d batch = b
+of-each P b r c d row = r
+of-each P b r c d column = c
+of-each P b r c d depth = d
+
+-- a letter that one of the three has is in the set of its group and in no other
+set-group : (a b d : Bool) → (d || (a || b)) ≡ true → (g : Group) → inSet g a b d ≡ eqb (number (groupBy a b d)) (number g)
+set-group true true true h = of-each _ refl refl refl refl
+set-group true true false h = of-each _ refl refl refl refl
+set-group true false true h = of-each _ refl refl refl refl
+set-group true false false h = of-each _ refl refl refl refl
+set-group false true true h = of-each _ refl refl refl refl
+set-group false true false h = of-each _ refl refl refl refl
+set-group false false true h = of-each _ refl refl refl refl
+set-group false false false h = absurd (true≢false (sym h))
+
+module _ (x : Operands) (h : Gathered x) where
+  -- a tensor's set has just its letters
+  has-letter : (o : Operand) (l : Letters) → Spells l (labels (shapeOf x o)) → (c : ℕ) → isLetter c ≡ true → has (l .set) c ≡ member c (letters (shapeOf x) o)
+  unfolding labels
+  has-letter o l e c v = e .sets c v ∙ member-once c (letters (shapeOf x) o)
+
+  valid : All (λ c. isLetter c ≡ true) (labels (together (shapeOf x)))
+  unfolding labels lettersValid
+  valid =
+      rw (← h .all)
+      (all-once (λ c. isLetter c ≡ true) (lettersOf (listed (x .all)))
+      (all-map (λ c. isLetter c ≡ true) (λ (a : Axis). a .letter) (listed (x .all))
+      (all-imp (λ a. T-true (isLetter (a .letter))) (listed (x .all)) (every-all (λ (a : Axis). isLetter (a .letter)) (listed (x .all)) (h .whole .letters)))))
+
+  -- the labels of the letters that D's set has are D's labels
+  pub kept-output : (l : Letters) → Spells l (labels (shapeOf x D)) → map (label (shapeOf x)) (keep (has (l .set)) (labels (listed (x .all)))) ≡ outputs (shapeOf x)
+  unfolding outputs
+  kept-output l e =
+      rw (
+        h .all,
+        keep-ext (has (l .set)) (λ c. member c (letters (shapeOf x) D)) (labels (together (shapeOf x)))
+            (all-imp (has-letter D l e) (labels (together (shapeOf x))) valid),
+      )
+
+  somewhere : All (λ c. (member c (letters (shapeOf x) D) || (member c (letters (shapeOf x) A) || member c (letters (shapeOf x) B))) ≡ true) (labels (together (shapeOf x)))
+  unfolding labels together
+  somewhere = all-imp (λ c e. sym (spread c) ∙ e) (labels (together (shapeOf x))) (distinct-members (lettersOf (together (shapeOf x))))
+    where
+      spread : (c : ℕ) → member c (lettersOf (together (shapeOf x))) ≡ (member c (letters (shapeOf x) D) || (member c (letters (shapeOf x) A) || member c (letters (shapeOf x) B)))
+      spread c =
+          rw (
+            map-append (λ (a : Axis). a .letter) (shapeOf x D) (shapeOf x A ++ shapeOf x B),
+            map-append (λ (a : Axis). a .letter) (shapeOf x A) (shapeOf x B),
+            member-append c (letters (shapeOf x) D) (letters (shapeOf x) A ++ letters (shapeOf x) B),
+            member-append c (letters (shapeOf x) A) (letters (shapeOf x) B),
+          )
+
+  module _ (ls : Operand → Letters) (spelt : (o : Operand) → Spells (ls o) (labels (shapeOf x o))) (r : Sets) (s : Split (ls A .set) (ls B .set) (ls D .set) r) (g : Group) where
+    in-set : All (λ c. has (setsIn r g) c ≡ inGroup (shapeOf x) g c) (labels (together (shapeOf x)))
+    unfolding inGroup groupOf
+    in-set = all-imp each (labels (together (shapeOf x))) (all-both _ _ (labels (together (shapeOf x))) valid somewhere)
+      where
+        each : (c : ℕ) → (isLetter c ≡ true) × ((member c (letters (shapeOf x) D) || (member c (letters (shapeOf x) A) || member c (letters (shapeOf x) B))) ≡ true)
+            → has (setsIn r g) c ≡ eqb (number (groupBy (member c (letters (shapeOf x) A)) (member c (letters (shapeOf x) B)) (member c (letters (shapeOf x) D)))) (number g)
+        each c v =
+            rw (split-set (ls A .set) (ls B .set) (ls D .set) r s g c, has-letter A (ls A) (spelt A) c (v .0), has-letter B (ls B) (spelt B) c (v .0), has-letter D (ls D) (spelt D) c (v .0))
+            (set-group (member c (letters (shapeOf x) A)) (member c (letters (shapeOf x) B)) (member c (letters (shapeOf x) D)) (v .1) g)
+
+    -- the labels of the letters that a group's set has are the group
+    pub kept-group : map (label (shapeOf x)) (keep (has (setsIn r g)) (labels (listed (x .all)))) ≡ group (shapeOf x) g
+    unfolding group
+    kept-group = rw (h .all, keep-ext (has (setsIn r g)) (inGroup (shapeOf x) g) (labels (together (shapeOf x))) in-set)

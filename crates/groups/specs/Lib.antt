@@ -1,0 +1,4 @@
+pub mod Foldable
+pub mod Groups
+pub mod Held
+pub mod Sets

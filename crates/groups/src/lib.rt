@@ -1,0 +1,2 @@
+// The labels of a contraction in four groups.
+pub mod groups;

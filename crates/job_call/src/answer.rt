@@ -1,0 +1,66 @@
+ghost use Prim.Native.Nat.{_≤_};
+ghost use lib.ListN.{length};
+ghost use Rattle.limits.specs.Limits.{jobLimit, textRoom};
+ghost use Rattle.contraction.specs.Operands.{three};
+ghost use Rattle.tiles.specs.Cut.{total};
+ghost use Rattle.tile_blocks.specs.Setting.{cutOf};
+ghost use Rattle.states.specs.Letters.{letters};
+ghost use Rattle.states.specs.Placed.{Accepted};
+ghost use Rattle.report.specs.Text.{reportText};
+ghost use Rattle.report.specs.Written.{Begins};
+ghost use Rattle.job_call.specs.TileText.{tileText};
+use contraction::contraction::Contraction;
+use limits::limits::Limits;
+use report::report::put_refused;
+use report::report::put_report;
+use states::letters::letters_after;
+use tiled::call::Outcome;
+use tiled::call::run;
+use tiles::grid::Sizes;
+
+// A tile call that ran t tiles: the letters of D's words, and the report with them; where the text ends.
+fn put_ran(
+    c: Contraction,
+    z: Sizes,
+    a: &[u32],
+    b: &[u32],
+    d: &[u32],
+    t: u64,
+    out: &mut [u8],
+) -> usize
+    requires { ⌜ Accepted c z (three (now a) (now b) (now d)) × (length (now d) ≤ jobLimit) × (textRoom ≤ length (now out)) ⌝ }
+    ensures { λ r. ⌜ Begins (now (out .entry))
+        (reportText t (total (cutOf c z)) (now (d .entry)) (letters c z (three (now (a .entry)) (now (b .entry)) (now (d .entry))) t))
+        r (now (out .exit)) ⌝ }
+{
+    let n = d.len();
+    let mut letters = [0u8; Limits::JOB];
+    let total = letters_after(c, z, a, b, d, t, &mut letters[..n]);
+    put_report(out, t, total, d, &letters[..n])
+}
+
+// One tile call with a work slice of zeros and what it answers, as text; where the text ends.
+pub fn put_call(
+    c: Contraction,
+    z: Sizes,
+    a: &[u32],
+    b: &[u32],
+    d: &mut [u32],
+    done: u64,
+    budget: u64,
+    out: &mut [u8],
+) -> usize
+    requires { ⌜ (length (now d) ≤ jobLimit) × (textRoom ≤ length (now out)) ⌝ }
+    ensures { λ r. ⌜ Begins (now (out .entry))
+        (tileText c z (three (now (a .entry)) (now (b .entry)) (now (d .entry))) done budget) r (now (out .exit)) ⌝ }
+{
+    let mut work = [0u32; Limits::WORK];
+    let outcome = run(c, z, a, b, d, &mut work, done, budget);
+    match outcome {
+        Outcome::Ran {
+            done: t,
+            complete: _,
+        } => put_ran(c, z, a, b, d, t, out),
+        Outcome::Refused { number, done: _ } => put_refused(out, number),
+    }
+}

@@ -1,0 +1,2 @@
+// One tile call on lent slices, and the text that answers it.
+pub mod answer;

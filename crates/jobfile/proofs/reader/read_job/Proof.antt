@@ -1,0 +1,40 @@
+-- `read_job` meets its contract: what the tensor's records read as goes on to what follows, or refuses the file.
+-- Assumes nothing.
+use mathlib.Core.Path.{ap}
+use borrow.Author.Needs.{needs}
+use Rattle.records.specs.Parts.{tensorParts}
+use Rattle.records.proofs.Reading.{got-held, goes-on, stops}
+use Rattle.jobfile.specs.Format.{readJob}
+use Rattle.jobfile.proofs.reader.read_job.Statement.{statement}
+use Rattle.jobfile.proofs.reader.read_job.Tie as tie
+
+tensor-records-requires : tie.Need-tensor-records-requires
+tensor-records-requires c κs = search needs
+
+enum-known-read : tie.Need-enum-known-read
+enum-known-read c = search needs
+
+from-b-requires : tie.Need-from-b-requires
+from-b-requires c κs = got-held (c .before .before .before .tensor-records .ensures) (ap tensorParts (c .before .read .given .1))
+
+enum-known-read-2 : tie.Need-enum-known-read-2
+enum-known-read-2 c = search needs
+
+returns : tie.Need-returns
+unfolding readJob
+returns c = goes-on (c .before .before .before .before .tensor-records .ensures) _ (ap tensorParts (c .before .before .read .given .1)) (c .from-b .ensures)
+
+returns-2 : tie.Need-returns-2
+unfolding readJob
+returns-2 c = stops (c .before .before .before .tensor-records .ensures) _ (ap tensorParts (c .before .read2 .given .1))
+
+pub read-job-spec : {M : Type 1} → statement M
+read-job-spec =
+    tie.close
+    (tie.spec
+    tensor-records-requires
+    enum-known-read
+    from-b-requires
+    enum-known-read-2
+    returns
+    returns-2)

@@ -1,0 +1,2 @@
+// A job file, read front to back.
+pub mod reader;

@@ -1,0 +1,19 @@
+-- `column` meets its contract: both ways of adding leave the same sums.
+-- Assumes nothing.
+use Rattle.kernel.proofs.kernel.column.Statement.{statement}
+use Rattle.kernel.proofs.kernel.column.Tie as tie
+
+lane-by-lane-requires : tie.Need-lane-by-lane-requires
+lane-by-lane-requires c κs = c .before .before .pre
+
+row-by-row-requires : tie.Need-row-by-row-requires
+row-by-row-requires c κs = c .before .before .pre
+
+returns : tie.Need-returns
+returns c = c .lane-by-lane .ensures
+
+returns-2 : tie.Need-returns-2
+returns-2 c = c .row-by-row .ensures
+
+pub column-spec : {M : Type 1} → statement M
+column-spec = tie.close (tie.spec lane-by-lane-requires row-by-row-requires returns returns-2)

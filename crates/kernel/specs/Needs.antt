@@ -1,0 +1,12 @@
+-- What the code that sums may assume of a packed tile. Inside contracts only.
+-- Assumes nothing.
+use Prim.Native.Nat.{ℕ, _+_, _*_, _≤_}
+use Rattle.words.specs.Loops.{Within}
+use Rattle.limits.specs.Limits.{blockLimit}
+
+-- the sums of a column can be formed, for `count` rows, from a slice of `size` words
+pub record Summable (rows count from cols depth size : ℕ) : Type 0 where
+  pub fits : count ≤ rows  -- each row has its place in packed A's lanes
+  pub few : count ≤ blockLimit  -- and its sum
+  pub left : rows * depth ≤ size  -- packed A is inside
+  pub right : Within depth (λ d. from + cols * d) size  -- the column's words of packed B are inside

@@ -1,0 +1,108 @@
+ghost use mathlib.Core.Path.{_≡_};
+ghost use Prim.Native.Nat.{_+_, _*_, _<_, _≤_};
+ghost use lib.ListN.{length, getD, set};
+ghost use Rattle.words.specs.Words.{word};
+ghost use Rattle.words.specs.Loops.{Within};
+ghost use Rattle.limits.specs.Limits.{blockLimit};
+ghost use Rattle.kernel.specs.Kernel.{laneAdded, columnSum, ColumnSums};
+ghost use Rattle.kernel.specs.Needs.{Summable};
+use limits::limits::Limits;
+
+// A product of two words added to one of the sums.
+pub fn add_at(sums: &mut [u32; Limits::BLOCK], r: usize, a: u32, by: u32)
+    requires { ⌜ r < blockLimit ⌝ }
+    ensures { λ _. ⌜ now (sums .exit) ≡ set (now (sums .entry)) r (word 32 (getD (now (sums .entry)) r 0 + word 32 (a * by))) ⌝ }
+{
+    sums[r] = std::num::wrapping_add_u32(sums[r], words::mul(a, by));
+}
+
+// A lane of packed A times one word, added to the sums.
+fn add_lane(sums: &mut [u32; Limits::BLOCK], work: &[u32], from: usize, count: usize, by: u32)
+    requires { ⌜ (count ≤ blockLimit) × (from + count ≤ length (now work)) ⌝ }
+    ensures { λ _. ⌜ now (sums .exit) ≡ laneAdded (now (work .entry)) from count by (now (sums .entry)) ⌝ }
+{
+    let mut r: usize = 0;
+    while r < count {
+        let a = work[from + r];
+        add_at(sums, r, a, by);
+        r += 1;
+    }
+}
+
+// The sums of a column side by side: each lane of packed A times one word of packed B.
+fn lane_by_lane(
+    work: &[u32],
+    rows: usize,
+    count: usize,
+    from: usize,
+    cols: usize,
+    depth: usize,
+) -> [u32; Limits::BLOCK]
+    requires { ⌜ Summable rows count from cols depth (length (now work)) ⌝ }
+    ensures { λ r. ⌜ ColumnSums count (columnSum (now (work .entry)) rows from cols depth) r ⌝ }
+{
+    let mut sums = [0u32; Limits::BLOCK];
+    let mut d: usize = 0;
+    while d < depth {
+        let by = work[from + cols * d];
+        add_lane(&mut sums, work, rows * d, count, by);
+        d += 1;
+    }
+    sums
+}
+
+// The sum of one row of a column.
+fn row_sum(work: &[u32], rows: usize, r: usize, from: usize, cols: usize, depth: usize) -> u32
+    requires { ⌜ (r < rows) × (rows * depth ≤ length (now work)) × Within depth (λ d. from + cols * d) (length (now work)) ⌝ }
+    ensures { λ s. ⌜ s ≡ word 32 (columnSum (now (work .entry)) rows from cols depth r) ⌝ }
+{
+    let mut sum: u32 = 0;
+    let mut d: usize = 0;
+    while d < depth {
+        let by = work[from + cols * d];
+        sum = std::num::wrapping_add_u32(sum, words::mul(work[rows * d + r], by));
+        d += 1;
+    }
+    sum
+}
+
+// The sums of a column one after the other.
+fn row_by_row(
+    work: &[u32],
+    rows: usize,
+    count: usize,
+    from: usize,
+    cols: usize,
+    depth: usize,
+) -> [u32; Limits::BLOCK]
+    requires { ⌜ Summable rows count from cols depth (length (now work)) ⌝ }
+    ensures { λ r. ⌜ ColumnSums count (columnSum (now (work .entry)) rows from cols depth) r ⌝ }
+{
+    let mut sums = [0u32; Limits::BLOCK];
+    let mut r: usize = 0;
+    while r < count {
+        sums[r] = row_sum(work, rows, r, from, cols, depth);
+        r += 1;
+    }
+    sums
+}
+
+// The sums of one column of a tile, a sum for each of its `count` rows: packed A's lanes, `rows` words each, times the column's words of packed B,
+// one in each lane: `cols` apart from `from` on. Up to four rows are too few to gain by going side by side.
+pub fn column(
+    work: &[u32],
+    rows: usize,
+    count: usize,
+    from: usize,
+    cols: usize,
+    depth: usize,
+) -> [u32; Limits::BLOCK]
+    requires { ⌜ Summable rows count from cols depth (length (now work)) ⌝ }
+    ensures { λ r. ⌜ ColumnSums count (columnSum (now (work .entry)) rows from cols depth) r ⌝ }
+{
+    if count > 4 {
+        lane_by_lane(work, rows, count, from, cols, depth)
+    } else {
+        row_by_row(work, rows, count, from, cols, depth)
+    }
+}

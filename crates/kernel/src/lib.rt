@@ -1,0 +1,2 @@
+// The kernel: the sums of one column of a packed tile.
+pub mod kernel;

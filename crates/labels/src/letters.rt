@@ -1,0 +1,89 @@
+ghost use mathlib.Core.Path.{_≡_};
+ghost use mathlib.Core.List.{[]};
+ghost use mathlib.Core.Bool.{true, _||_};
+ghost use Prim.Native.Nat.{ℕ, _+_, _%_, _<_, _≤_};
+ghost use lib.Dec.{eqb};
+ghost use Rattle.limits.specs.Limits.{axesLimit};
+ghost use Rattle.layout.specs.Listed.{listed};
+ghost use Rattle.validity.specs.Letters.{isLetter};
+ghost use Rattle.validity.specs.Checked.{Checked};
+ghost use Rattle.labels.specs.LetterSets.{has, spelled, Spells, added};
+ghost use Rattle.labels.specs.Labels.{labels};
+use layout::axes::Axes;
+use limits::limits::Limits;
+
+// Different letters in order, beside the set of them as bits of a 64-bit word.
+pub struct Letters {
+    pub letters: [u8; Limits::AXES],
+    pub count: usize,
+    pub set: u64,
+}
+
+fn bit_of(c: u8) -> u32
+    ensures { λ r. ⌜ r ≡ c % 64 ⌝ }
+{
+    (c as u32) % 64
+}
+
+// Does the set have the letter?
+pub fn has_letter(set: u64, c: u8) -> bool
+    ensures { λ r. ⌜ r ≡ has set c ⌝ }
+{
+    let k = bit_of(c);
+    (set >> k) % 2 == 1
+}
+
+fn insert(set: u64, c: u8) -> u64
+    ensures { λ r. ⌜ ((d : ℕ) → has r d ≡ (eqb (d % 64) (c % 64) || has set d)) ⌝ }
+{
+    let k = bit_of(c);
+    set | (1u64 << k)
+}
+
+impl Letters {
+    pub fn none() -> Letters
+        ensures { λ r. ⌜ Spells r [] ⌝ }
+    {
+        Letters {
+            letters: [0; Limits::AXES],
+            count: 0,
+            set: 0,
+        }
+    }
+
+    // The letters with one more behind them, unless they have it.
+    fn with(self, c: u8) -> Letters
+        requires { ⌜ Spells self (spelled self) × (self .count < axesLimit) × (isLetter c ≡ true) ⌝ }
+        ensures { λ r. ⌜ Spells r (added c (spelled self)) × (r .count ≤ self .count + 1) ⌝ }
+    {
+        let set = self.set;
+        if has_letter(set, c) {
+            return self;
+        }
+        let n = self.count;
+        let mut letters = self.letters;
+        letters[n] = c;
+        Letters {
+            letters,
+            count: n + 1,
+            set: insert(set, c),
+        }
+    }
+}
+
+// The different letters of the axes, in order of first appearance.
+pub fn letters_of(x: Axes) -> Letters
+    requires { ⌜ Checked x ⌝ }
+    ensures { λ r. ⌜ Spells r (labels (listed x)) ⌝ }
+{
+    let items = x.items;
+    let count = x.count;
+    let mut all = Letters::none();
+    let mut i: usize = 0;
+    while i < count {
+        let a = items[i];
+        all = all.with(a.letter);
+        i += 1;
+    }
+    all
+}

@@ -1,0 +1,69 @@
+-- The limits of the rules, by name. The code's are the associated constants of `Limits`; `Limits::all` is proved to hold these.
+-- Assumes nothing.
+use Prim.Native.Nat.{ℕ, _*_}
+use Rattle.limits.specs.declared.limits.Limits.{Limits}
+
+abbrev pub rankLimit : ℕ  -- letters of a tensor
+rankLimit = 8
+
+abbrev pub extentLimit : ℕ
+extentLimit = 65536
+
+abbrev pub strideLimit : ℕ  -- the size of a stride, up or down
+strideLimit = 16777216
+
+abbrev pub baseLimit : ℕ
+baseLimit = 16777216
+
+abbrev pub sliceLimit : ℕ  -- words of a tensor's slice
+sliceLimit = 16777216
+
+abbrev pub productLimit : ℕ  -- the product of the extents of all different labels
+productLimit = 1073741824
+
+abbrev pub axesLimit : ℕ  -- the letters of three tensors: no limit of the rules, but the room in the code's lists
+axesLimit = 3 * rankLimit
+
+abbrev pub rowsLimit : ℕ  -- rows of a tile
+rowsLimit = 64
+
+abbrev pub colsLimit : ℕ  -- columns of a tile
+colsLimit = 64
+
+abbrev pub depthLimit : ℕ  -- depth of a tile
+depthLimit = 128
+
+abbrev pub blockLimit : ℕ  -- offsets of a block of rows or columns
+blockLimit = 64
+
+abbrev pub jobLimit : ℕ  -- words of a tensor in a job file
+jobLimit = 4096
+
+abbrev pub workRoom : ℕ  -- words of the job program's work slice
+workRoom = 16384
+
+abbrev pub fileRoom : ℕ  -- bytes that the job program reads of its file
+fileRoom = 65536
+
+abbrev pub textRoom : ℕ  -- bytes for the text that it prints
+textRoom = 65536
+
+abbrev pub limits : Limits
+limits =
+    record {
+      rank = rankLimit;
+      extent = extentLimit;
+      stride = strideLimit;
+      base = baseLimit;
+      slice = sliceLimit;
+      product = productLimit;
+      axes = axesLimit;
+      rows = rowsLimit;
+      cols = colsLimit;
+      depth = depthLimit;
+      block = blockLimit;
+      job = jobLimit;
+      work = workRoom;
+      file = fileRoom;
+      text = textRoom;
+    }

@@ -1,0 +1,76 @@
+ghost use mathlib.Core.Path.{_≡_};
+ghost use Rattle.limits.specs.Limits.{limits};
+
+// The limits of the rules, one set of named values for both engines and the program.
+pub struct Limits {
+    pub rank: usize,
+    pub extent: u32,
+    pub stride: u64,
+    pub base: u32,
+    pub slice: usize,
+    pub product: u64,
+    pub axes: usize,
+    pub rows: usize,
+    pub cols: usize,
+    pub depth: usize,
+    pub block: usize,
+    pub job: usize,
+    pub work: usize,
+    pub file: usize,
+    pub text: usize,
+}
+
+impl Limits {
+    pub const RANK: usize = 8;
+
+    pub const EXTENT: u32 = 65536;
+
+    pub const STRIDE: u64 = 16777216;
+
+    pub const BASE: u32 = 16777216;
+
+    pub const SLICE: usize = 16777216;
+
+    pub const PRODUCT: u64 = 1073741824;
+    // The letters of three tensors: room for all axes, labels or letters of a contraction.
+    pub const AXES: usize = 3 * Limits::RANK;
+
+    pub const ROWS: usize = 64;
+
+    pub const COLS: usize = 64;
+
+    pub const DEPTH: usize = 128;
+    // The offsets of a block of rows or columns.
+    pub const BLOCK: usize = 64;
+    // The words of a tensor in a job file.
+    pub const JOB: usize = 4096;
+    // The words of the job program's work slice.
+    pub const WORK: usize = 16384;
+    // The bytes that the job program reads of its file, and those for the text that it prints.
+    pub const FILE: usize = 65536;
+
+    pub const TEXT: usize = 65536;
+
+    // The constants are those that the definitions name.
+    pub fn all() -> Limits
+        ensures { λ r. ⌜ r ≡ limits ⌝ }
+    {
+        Limits {
+            rank: Limits::RANK,
+            extent: Limits::EXTENT,
+            stride: Limits::STRIDE,
+            base: Limits::BASE,
+            slice: Limits::SLICE,
+            product: Limits::PRODUCT,
+            axes: Limits::AXES,
+            rows: Limits::ROWS,
+            cols: Limits::COLS,
+            depth: Limits::DEPTH,
+            block: Limits::BLOCK,
+            job: Limits::JOB,
+            work: Limits::WORK,
+            file: Limits::FILE,
+            text: Limits::TEXT,
+        }
+    }
+}

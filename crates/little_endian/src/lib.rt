@@ -1,0 +1,2 @@
+// Little-endian numbers in a job file's bytes.
+pub mod numbers;

@@ -1,0 +1,2 @@
+// A record's kind by its two-byte mark.
+pub mod marks;

@@ -1,0 +1,11 @@
+pub mod Address
+pub mod Agree
+pub mod Counts
+pub mod Index
+pub mod Lacks
+pub mod Nested
+pub mod Onto
+pub mod Outputs
+pub mod Parts
+pub mod Result
+pub mod Values

@@ -1,0 +1,45 @@
+-- What a contraction leaves in D: the meaning of TAPP, with repeated labels, labels of one tensor only, and broadcast.
+-- Assumes nothing.
+use Prim.Native.Nat.{ℕ, _+_, _*_}
+use mathlib.Core.List.{List}
+use lib.ListN.{getD, length}
+use Rattle.words.specs.Words.{word}
+use Rattle.words.specs.Loops.{overwrite}
+use Rattle.layout.specs.Layout.{address}
+use Rattle.contraction.specs.declared.contraction.Contraction.{Contraction}
+use Rattle.contraction.specs.Operands.{Operand, A, B, D, Shape, tensors, shape}
+use Rattle.questions.specs.Questions.{refusal, layoutQuestions}
+use Rattle.groups.specs.Groups.{depth, group, outputs, size}
+use Rattle.meaning.specs.Index.{sumOver, outIndex}
+
+-- the words of each tensor's slice
+abbrev pub Slices : Type 0
+Slices = Operand → List ℕ
+
+-- questions 1 to 9 of a contraction and its slices: the number of the first no, 0 where all pass
+abbrev pub firstNo : Contraction → Slices → ℕ
+firstNo c w = refusal (layoutQuestions (tensors c) (λ o. length (w o)))
+
+abbrev pub shapeIn : Contraction → Shape
+shapeIn c = shape (tensors c)
+
+-- alpha × a sum + beta × an old word, modulo 2^32
+abbrev pub combined : ℕ → ℕ → ℕ → ℕ → ℕ
+combined alpha beta sum old = word 32 (alpha * sum + beta * old)
+
+module _ (c : Contraction) (w : Slices) where
+  -- the entry of a tensor at an index: a tensor that lacks a label has the same entry at each of its values
+  unfoldable pub entry : Operand → (ℕ → ℕ) → ℕ
+  entry o ρ = getD (w o) (address (tensors c o) ρ) 0
+
+  -- alpha × (the sum, over every label that D lacks, of A's entry × B's entry) + beta × old word
+  unfoldable pub value : (ℕ → ℕ) → ℕ
+  value ρ = combined (c .alpha) (c .beta) (sumOver (group (shapeIn c) depth) (λ σ. entry A σ * entry B σ) ρ) (entry D ρ)
+
+-- D's words afterwards: each output index's value at its address
+unfoldable pub result : Contraction → Slices → List ℕ
+result c w =
+    overwrite (size (outputs (shapeIn c)))
+    (λ m. address (tensors c D) (outIndex (shapeIn c) m))
+    (λ m. value c w (outIndex (shapeIn c) m))
+    (w D)

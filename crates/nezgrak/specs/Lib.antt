@@ -1,3 +1,0 @@
-pub mod Flat
-pub mod FlatTiles
-pub mod FlatState

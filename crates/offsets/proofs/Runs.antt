@@ -1,0 +1,42 @@
+-- Runs of a group's first label: along a run a count's offset grows by the label's weight.
+-- Assumes nothing.
+use mathlib.Core.Path.{_≡_, ap, sym, _∙_}
+use mathlib.Core.List.{List, [], _∷_}
+use Prim.Native.Nat.{ℕ, _+_, _*_, _/_, _%_, _<_}
+use native.Mathlib.Nat.{div-add-mod, mul-mod-right, mul-div-right}
+use native.Mathlib.Omega.{arith}
+use Rattle.groups.specs.Groups.{Label, size}
+use Rattle.groups.specs.Foldable.{Foldable}
+use Rattle.offsets.specs.Counts.{offset}
+use Rattle.offsets.specs.Lead.{lead}
+use Rattle.offsets.proofs.Digits.{lowest, rest, pos-left}
+
+pub lead-long : (g : List Label) → Foldable g → 0 < lead g .extent
+lead-long [] f = omega arith
+lead-long (l ∷ g) f = f .extents .0
+
+-- and so in a group that has a count
+pub lead-counts : (g : List Label) {n : ℕ} → n < size g → 0 < lead g .extent
+lead-counts [] h = omega arith
+lead-counts (l ∷ g) {n} h = pos-left (l .extent) (size g) n h
+
+-- the offset of a count is that of its run's first count and v times the lead's weight
+pub offset-run : (f : Label → ℕ) (g : List Label) (e m v : ℕ) → f (lead []) ≡ 0 → e ≡ lead g .extent → v < e → offset f g (e * m + v) ≡ offset f g (e * m) + v * f (lead g)
+offset-run f [] e m v z q h = rw z (omega arith)
+offset-run f (l ∷ g) e m v z q h =
+    let p : 0 < e = omega arith in
+    rw (← q, lowest e m h, rest e m h, mul-mod-right e m, mul-div-right m p) (omega arith)
+
+-- the next count of a run: its lowest digit is one more, and its offset grows by the lead's weight
+module _ (e n : ℕ) (h : n % e + 1 < e) where
+  next-count : n + 1 ≡ e * (n / e) + (n % e + 1)
+  next-count = omega (arith, div-add-mod n e)
+
+  pub next-lowest : (n + 1) % e ≡ n % e + 1
+  next-lowest = ap (λ (x : ℕ). x % e) next-count ∙ lowest e (n / e) h
+
+  pub offset-next : (f : Label → ℕ) (g : List Label) → f (lead []) ≡ 0 → e ≡ lead g .extent → offset f g (n + 1) ≡ offset f g n + f (lead g)
+  offset-next f g z q =
+      let here = ap (offset f g) (sym (div-add-mod n e)) ∙ offset-run f g e (n / e) (n % e) z q (omega arith) in
+      let there = ap (offset f g) next-count ∙ offset-run f g e (n / e) (n % e + 1) z q h in
+      omega (arith, here, there)

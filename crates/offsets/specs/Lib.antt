@@ -1,0 +1,3 @@
+pub mod Counts
+pub mod Lead
+pub mod Offsets

@@ -1,0 +1,14 @@
+-- Offsets as the code holds them: an address word for each tensor. Inside contracts only.
+-- Assumes nothing.
+use Prim.Native.Nat.{ℕ}
+use mathlib.Core.Path.{_≡_}
+use Rattle.words.specs.Words.{word}
+use Rattle.contraction.specs.Operands.{Operand, three}
+use Rattle.offsets.specs.declared.offsets.Offsets.{Offsets}
+
+abbrev pub wordsIn : Offsets → Operand → ℕ
+wordsIn x = three (x .a) (x .b) (x .d)
+
+-- the words are those of f, modulo 2^64
+pub record Words (r : Offsets) (f : Operand → ℕ) : Type 0 where
+  pub each : (o : Operand) → wordsIn r o ≡ word 64 (f o)

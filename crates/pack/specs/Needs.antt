@@ -1,0 +1,21 @@
+-- What the code that packs may assume of blocks and slices. Inside contracts only.
+-- Assumes nothing.
+use Prim.Native.Nat.{ℕ, _<_, _*_, _≤_}
+use mathlib.Core.List.{List}
+use lib.ListN.{getD}
+use Rattle.words.specs.Loops.{each, Within}
+use Rattle.limits.specs.Limits.{depthLimit}
+use Rattle.block.specs.declared.block.Block.{Block}
+use Rattle.block.specs.Places.{asStep, placeOf, InLane}
+
+-- from each of the first n starts, each place of a block is one of a slice of `size` words
+pub record PlacesAt (starts : List ℕ) (n : ℕ) (offsets : List ℕ) (count size : ℕ) : Type 0 where
+  pub each : (d : ℕ) → d < n → Within count (placeOf (getD starts d 0) offsets) size
+
+-- a block can be packed: read from a slice of `src` words, written to one of `out` words
+pub record Packable (starts : List ℕ) (filled : ℕ) (block : Block) (width depth src out : ℕ) : Type 0 where
+  pub lane : InLane width (block .count) (block .offsets) (asStep (block .step))
+  pub lanes : filled ≤ depth  -- no more lanes are filled than there are
+  pub shallow : depth ≤ depthLimit  -- there is a start for each lane
+  pub reads : PlacesAt starts filled (block .offsets) (block .count) src  -- all that is read is inside
+  pub room : width * depth ≤ out  -- the packed block is inside

@@ -1,0 +1,4 @@
+pub mod Foldable
+pub mod GroupSizes
+pub mod Reached
+pub mod Wrapped

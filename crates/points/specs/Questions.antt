@@ -1,0 +1,21 @@
+-- Questions 6 and 7, about the labels of all tensors together. Each is a test that passes or fails.
+-- Assumes nothing.
+use Prim.Native.Nat.{ℕ}
+use mathlib.Core.Bool.{Bool}
+use mathlib.Core.List.{List}
+use lib.Dec.{eqb, leb}
+use Rattle.words.specs.Sums.{product, every}
+use Rattle.limits.specs.Limits.{productLimit}
+use Rattle.layout.specs.declared.layout.Axis.{Axis}
+use Rattle.labels.specs.Labels.{extentOf, labels}
+
+-- question 6, of the axes of all tensors: has a letter the same extent wherever it occurs?
+unfoldable pub extentsAgree : List Axis → Bool
+extentsAgree xs = every (λ a. eqb (a .extent) (extentOf (a .letter) xs)) xs
+
+-- question 7, of the axes of all tensors: is the product of the extents of all different labels at most 1,073,741,824?
+unfoldable pub points : List Axis → ℕ
+points xs = product (λ c. extentOf c xs) (labels xs)
+
+unfoldable pub pointsFit : List Axis → Bool
+pointsFit xs = leb (points xs) productLimit

@@ -1,0 +1,62 @@
+-- `later_refusal` meets its contract: the lists hold the axes of the tensors, so that the answers are the questions', and `ask` puts
+-- them in the order of the list.
+-- Assumes nothing.
+use mathlib.Core.Path.{ap, _∙_}
+use borrow.Author.Needs.{needs}
+use Rattle.points.specs.Questions.{extentsAgree, pointsFit}
+use Rattle.entries.specs.Questions.{apart}
+use Rattle.contraction.specs.Operands.{D}
+use Rattle.questions.specs.Questions.{allLabels, entries}
+use Rattle.questions.proofs.Refusal.{none-left, asked}
+use Rattle.questions.proofs.Ready.{all-listed}
+use Rattle.questions.proofs.questions.later_refusal.Statement.{statement}
+use Rattle.questions.proofs.questions.later_refusal.Tie as tie
+
+extents-agree-requires : tie.Need-extents-agree-requires
+extents-agree-requires c κs = search needs
+
+points-fit-requires : tie.Need-points-fit-requires
+points-fit-requires c κs = search needs
+
+entries-inside-requires : tie.Need-entries-inside-requires
+entries-inside-requires c κs = search needs
+
+all-apart-requires : tie.Need-all-apart-requires
+all-apart-requires c κs = c .before .before .before .before .before .pre .gathered .each D
+
+ask-requires : tie.Need-ask-requires
+ask-requires c κs = search needs
+
+ask-requires-2 : tie.Need-ask-requires-2
+ask-requires-2 c κs = search needs
+
+ask-requires-3 : tie.Need-ask-requires-3
+ask-requires-3 c κs = search needs
+
+ask-requires-4 : tie.Need-ask-requires-4
+ask-requires-4 c κs = search needs
+
+returns : tie.Need-returns
+unfolding allLabels entries
+returns c =
+    let s = c .before .before .before .before .before .before .before .before .before .before in
+    let k = c .before .before .before .before in
+    let l = all-listed (s .args .c) (s .args .x) (s .pre .lists) in
+    let nine = asked 9 (k .all-apart .ensures ∙ ap apart (s .pre .lists .each D)) none-left (c .before .before .before .ask .ensures) in
+    let eight = asked 8 (k .before .entries-inside .ensures) nine (c .before .before .ask2 .ensures) in
+    let seven = asked 7 (k .before .before .points-fit .ensures ∙ ap pointsFit l) eight (c .before .ask3 .ensures) in
+    asked 6 (k .before .before .before .extents-agree .ensures ∙ ap extentsAgree l) seven (c .ask4 .ensures) .number
+
+pub later-refusal-spec : {M : Type 1} → statement M
+later-refusal-spec =
+    tie.close
+    (tie.spec
+    extents-agree-requires
+    points-fit-requires
+    entries-inside-requires
+    all-apart-requires
+    ask-requires
+    ask-requires-2
+    ask-requires-3
+    ask-requires-4
+    returns)

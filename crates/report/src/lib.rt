@@ -1,0 +1,2 @@
+// The text that answers a job.
+pub mod report;

@@ -1,0 +1,33 @@
+-- The letters as the code puts them, by the address words of a plan. Inside contracts only.
+-- Assumes nothing.
+use Prim.Native.Nat.{ℕ, _<_}
+use mathlib.Core.Path.{_≡_}
+use mathlib.Core.List.{List}
+use Rattle.words.specs.Loops.{each, put}
+use Rattle.contraction.specs.declared.contraction.Contraction.{Contraction}
+use Rattle.questions.specs.Questions.{refusal}
+use Rattle.meaning.specs.Meaning.{Slices}
+use Rattle.plan.specs.declared.plan.Plan.{Plan}
+use Rattle.tiles.specs.declared.grid.Sizes.{Sizes}
+use Rattle.tiles.specs.Cut.{Cut}
+use Rattle.tiles.specs.Progress.{stateAt}
+use Rattle.tile_blocks.specs.Planned.{placeD}
+use Rattle.tile_questions.specs.Questions.{acceptQuestions}
+use Rattle.states.specs.Letters.{letterOf}
+
+-- questions 1 to 10 pass: the contraction is accepted
+pub record Accepted (c : Contraction) (z : Sizes) (w : Slices) : Type 0 where
+  pub passed : refusal (acceptQuestions c z w) ≡ 0
+
+module _ (p : Plan) (G : Cut) where
+  -- each output index has its place in a slice of that many words
+  pub record Placed (room : ℕ) : Type 0 where
+    pub inside : (h i j : ℕ) → h < G .H → i < G .M → j < G .N → placeD p h i j < room
+
+  -- the letter of an output index after t tiles, put at its place
+  abbrev pub lettered : ℕ → ℕ → ℕ → ℕ → List ℕ → List ℕ
+  lettered t h i j = put (λ was. letterOf (stateAt G t h i j)) (placeD p h i j)
+
+  -- the letters of all output indices of a batch count, each put at its place
+  abbrev pub columnLetters : ℕ → ℕ → List ℕ → List ℕ
+  columnLetters t h = each (G .N) (λ j. each (G .M) (λ i. lettered t h i j))

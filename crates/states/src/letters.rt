@@ -1,0 +1,116 @@
+ghost use mathlib.Core.Path.{_≡_};
+ghost use Prim.Native.Nat.{_<_};
+ghost use lib.ListN.{length};
+ghost use Rattle.words.specs.Loops.{each};
+ghost use Rattle.words.specs.Lists.{tabulate};
+ghost use Rattle.contraction.specs.Operands.{three};
+ghost use Rattle.tiles.specs.Cut.{total};
+ghost use Rattle.tiles.specs.Grid.{cutIn, stateOf};
+ghost use Rattle.tile_blocks.specs.Setting.{cutOf};
+ghost use Rattle.tile_blocks.specs.Planned.{GridOf};
+ghost use Rattle.states.specs.Letters.{letterOf, letters, outside};
+ghost use Rattle.states.specs.Placed.{Placed, lettered, columnLetters, Accepted};
+use contraction::contraction::Contraction;
+use contraction::contraction::Lengths;
+use offsets::offsets::Offsets;
+use plan::plan::Plan;
+use plan::plan::plan_of;
+use tile_blocks::grid::grid_of;
+use tiles::grid::Grid;
+use tiles::grid::Sizes;
+use tiles::grid::State;
+
+fn letter_of(s: State) -> u8
+    ensures { λ r. ⌜ r ≡ letterOf (stateOf s) ⌝ }
+{
+    match s {
+        State::Old => b'o',
+        State::Part => b'p',
+        State::Final => b'f',
+    }
+}
+
+// The output indices of a batch and a column count: each one's letter at its place in D.
+fn letter_rows(p: Plan, g: Grid, t: u64, h: u32, j: u32, out: &mut [u8])
+    requires { ⌜ GridOf p g × Placed p (cutIn g) (length (now out)) × (h < cutIn g .H) × (j < cutIn g .N) ⌝ }
+    ensures { λ _. ⌜ now (out .exit) ≡ each (cutIn g .M) (λ i. lettered p (cutIn g) t h i j) (now (out .entry)) ⌝ }
+{
+    let groups = p.groups;
+    let base = p.base;
+    let row = groups.row;
+    let counts = g.counts;
+    let rows = counts.row;
+    let from = base.plus(Offsets::of(groups.batch, h))
+        .plus(Offsets::of(groups.column, j));
+    let mut i: u32 = 0;
+    while i < rows {
+        let place = from.plus(Offsets::of(row, i));
+        let at = place.d as usize;
+        out[at] = letter_of(g.state(t, h as u64, i as u64, j as u64));
+        i += 1;
+    }
+}
+
+// The output indices of a batch count: each one's letter at its place in D.
+fn letter_columns(p: Plan, g: Grid, t: u64, h: u32, out: &mut [u8])
+    requires { ⌜ GridOf p g × Placed p (cutIn g) (length (now out)) × (h < cutIn g .H) ⌝ }
+    ensures { λ _. ⌜ now (out .exit) ≡ columnLetters p (cutIn g) t h (now (out .entry)) ⌝ }
+{
+    let counts = g.counts;
+    let columns = counts.column;
+    let mut j: u32 = 0;
+    while j < columns {
+        letter_rows(p, g, t, h, j, out);
+        j += 1;
+    }
+}
+
+// All output indices: each one's letter at its place in D.
+fn letter_batches(p: Plan, g: Grid, t: u64, out: &mut [u8])
+    requires { ⌜ GridOf p g × Placed p (cutIn g) (length (now out)) ⌝ }
+    ensures { λ _. ⌜ now (out .exit) ≡ each (cutIn g .H) (columnLetters p (cutIn g) t) (now (out .entry)) ⌝ }
+{
+    let counts = g.counts;
+    let batches = counts.batch;
+    let mut h: u32 = 0;
+    while h < batches {
+        letter_columns(p, g, t, h, out);
+        h += 1;
+    }
+}
+
+// `-` for every word: as yet all are outside the layout.
+fn clear(out: &mut [u8])
+    ensures { λ _. ⌜ now (out .exit) ≡ tabulate (length (now (out .entry))) (λ k. outside) ⌝ }
+{
+    let mut k: usize = 0;
+    while k < out.len() {
+        out[k] = b'-';
+        k += 1;
+    }
+}
+
+// The letters of D's words after t tiles; the total of tiles.
+pub fn letters_after(
+    c: Contraction,
+    z: Sizes,
+    a: &[u32],
+    b: &[u32],
+    d: &[u32],
+    t: u64,
+    out: &mut [u8],
+) -> u64
+    requires { ⌜ Accepted c z (three (now a) (now b) (now d)) × (length (now out) ≡ length (now d)) ⌝ }
+    ensures { λ r. ⌜ (r ≡ total (cutOf c z)) × (now (out .exit) ≡ letters c z (three (now (a .entry)) (now (b .entry)) (now (d .entry))) t) ⌝ }
+{
+    let n = Lengths {
+        a: a.len(),
+        b: b.len(),
+        d: d.len(),
+    };
+    let p = plan_of(c, n);
+    let g = grid_of(p, z);
+    clear(out);
+    letter_batches(p, g, t, out);
+    g.total
+}

@@ -1,0 +1,2 @@
+// The stores: a column's sums are added to D's words.
+pub mod store;

@@ -1,0 +1,88 @@
+-- What the tile code computes, by the address words of a plan. Inside contracts only.
+-- Assumes nothing.
+use Prim.Native.Nat.{ℕ, _+_, _*_, _<_, _≤_}
+use mathlib.Core.Path.{_≡_}
+use mathlib.Core.List.{List}
+use lib.Dec.{eqb}
+use lib.ListN.{getD}
+use Rattle.words.specs.Words.{word, wordOf}
+use Rattle.limits.specs.Limits.{axesLimit}
+use Rattle.contraction.specs.Operands.{Operand, D, three}
+use Rattle.groups.specs.Groups.{Group, batch, row, column, depth}
+use Rattle.groups.specs.Held.{labelsIn}
+use Rattle.groups.specs.Foldable.{Foldable}
+use Rattle.offsets.specs.Counts.{offsetIn}
+use Rattle.offsets.specs.Offsets.{wordsIn}
+use Rattle.plan.specs.declared.plan.Plan.{Plan}
+use Rattle.plan.specs.Plan.{planned}
+use Rattle.scatter.specs.declared.blocks.Blocks.{Blocks}
+use Rattle.scatter.specs.Laid.{Blocked}
+use Rattle.tiles.specs.declared.grid.Sizes.{Sizes}
+use Rattle.tiles.specs.declared.grid.Grid.{Grid}
+use Rattle.tiles.specs.Grid.{cutIn, Fits, Counted}
+use Rattle.tiles.specs.Cut.{Cut, width, batchOf, panelOf}
+use Rattle.tiles.specs.Setting.{Setting, settingBy}
+use Rattle.tile_blocks.specs.declared.stand.Stand.{Stand}
+use Rattle.tile_blocks.specs.Side.{Side, left, right, both, tensorOn, groupOn, sizeOn, tileOn, blockOn}
+use Rattle.tile_blocks.specs.Setting.{cutGroups}
+
+module _ (p : Plan) where
+  -- how far a count of a group moves in a tensor, as an address word
+  abbrev pub moved : Group → Operand → ℕ → ℕ
+  moved g o n = word 64 (offsetIn (wordOf 64) o (labelsIn (planned p g)) n)
+
+  -- where a tensor stands at a batch count, and at a batch and a depth count
+  abbrev pub atBatch : ℕ → Operand → ℕ
+  atBatch h o = word 64 (wordsIn (p .base) o + moved batch o h)
+
+  abbrev pub atDepth : ℕ → ℕ → Operand → ℕ
+  atDepth h k o = word 64 (atBatch h o + offsetIn (wordOf 64) o (labelsIn (planned p depth)) k)
+
+  -- the place of a side's entry at a batch count, a count of its group and a depth count, and that of an output
+  unfoldable pub placeIn : Side → ℕ → ℕ → ℕ → ℕ
+  placeIn s h m k = word 64 (atDepth h k (tensorOn s) + moved (groupOn s) (tensorOn s) m)
+
+  unfoldable pub placeD : ℕ → ℕ → ℕ → ℕ
+  placeD h i j = word 64 (word 64 (atBatch h D + moved column D j) + moved row D i)
+
+  -- the plan's groups, cut by a tile's sizes
+  abbrev pub planCut : Sizes → Cut
+  planCut = cutGroups (λ g. labelsIn (planned p g))
+
+  -- the words that tiles read of A and of B
+  abbrev pub readIn : List ℕ → List ℕ → Side → ℕ → ℕ → ℕ → ℕ
+  readIn a b s h m k = getD (both a b s) (placeIn s h m k) 0
+
+  unfoldable pub planSetting : Cut → ℕ → ℕ → List ℕ → List ℕ → Setting
+  planSetting G alpha beta a b = settingBy G placeD (λ h i j k. readIn a b left h i k) (λ h i j k. readIn a b right h j k) alpha beta
+
+  -- all that tiles read and write is inside
+  pub record Clear (G : Cut) (a b d : ℕ) : Type 0 where
+    pub inSide : (s : Side) (h m k : ℕ) → h < G .H → m < sizeOn G s → k < G .K → placeIn s h m k < both a b s
+    pub inD : (h i j : ℕ) → h < G .H → i < G .M → j < G .N → placeD h i j < d
+
+  -- the grid is that of the plan's groups, and their lists are in the limit
+  pub record GridOf (g : Grid) : Type 0 where
+    pub counted : Counted g
+    pub same : cutIn g ≡ planCut (g .sizes)
+    pub few : (x : Group) → planned p x .count ≤ axesLimit
+
+  -- what the grid's numbers may assume: questions 1 to 10 passed
+  pub record PlanFits (z : Sizes) : Type 0 where
+    pub fits : Fits (planCut z)
+    pub foldable : (x : Group) → Foldable (labelsIn (planned p x))
+    pub few : (x : Group) → planned p x .count ≤ axesLimit
+
+  -- the code's record of where tile n stands
+  abbrev pub startsIn : Stand → Operand → List ℕ
+  startsIn s = three (s .a) (s .b) (s .d)
+
+  abbrev pub blocksOn : Stand → Side → Blocks
+  blocksOn s = both (s .rows) (s .cols)
+
+  pub record Stands (G : Cut) (n : ℕ) (s : Stand) : Type 0 where
+    pub from : (o : Operand) → wordsIn (s .from) o ≡ atBatch (batchOf G n) o
+    pub blocks : (x : Side) → Blocked (labelsIn (planned p (groupOn x))) (blockOn G n x * tileOn G x) (width (sizeOn G x) (tileOn G x) (blockOn G n x)) (blocksOn s x)
+    pub filled : s .filled ≡ width (G .K) (G .depth) (panelOf G n)
+    pub starts : (o : Operand) (k : ℕ) → k < s .filled → getD (startsIn s o) k 0 ≡ atDepth (batchOf G n) (panelOf G n * G .depth + k) o
+    pub first : s .first ≡ eqb (panelOf G n) 0

@@ -1,0 +1,2 @@
+pub mod PackedWork
+pub mod TileSteps

@@ -1,0 +1,3 @@
+// One tile, and tiles one after the other.
+pub mod run;
+pub mod tile;
