@@ -8,7 +8,7 @@ import os
 from checking import expect
 from files import ROOT, listed_crates
 
-LIMIT = 5_000_000  # bytes of walks, which stand for a check of about 10 s
+LIMIT = 5_000_000  # bytes of walks, which stand for a check of 10 s or somewhat more
 
 
 def walks_of(crate):
@@ -27,5 +27,5 @@ def check_walks():
     sizes = {crate: walks_of(crate) for crate in listed_crates() if not is_program(crate)}
     expect(sum(sizes.values()) > LIMIT, "target/rlib has", sum(sizes.values()), "bytes of walks: they are not where they were")
     large = [f"{crate} ({size / 1e6:.1f} MB)" for crate, size in sizes.items() if size > LIMIT]
-    expect(not large, f"over {LIMIT / 1e6:.0f} MB of generated proofs, so that each edit takes over 10 s; split:", ", ".join(large))
+    expect(not large, f"over {LIMIT / 1e6:.0f} MB of generated proofs, so that each of its edits costs more than that is worth; split:", ", ".join(large))
     yield f"the walks of {len(sizes)} crates have at most {max(sizes.values()) / 1e6:.1f} MB each"
