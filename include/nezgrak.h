@@ -28,12 +28,13 @@ extern "C" {
  *     2  Are there as many extents and as many strides as letters?
  *     3  Is every letter A to Z or a to z?
  *     4  Is every extent 1 to 65,536?
- *     5  Is every stride from -16,777,216 to 16,777,216, every base at most 16,777,216, every slice at most 16,777,216 words?
+ *     5  Is every stride from -16,777,216 to 16,777,216, every base at most 16,777,216, every tensor's slice at most
+ *        16,777,216 words?
  *     6  Has a letter the same extent wherever it occurs?
  *     7  Is the product of the extents of all different labels at most 1,073,741,824?
  *     8  Does every entry of A, B and D fall inside its slice?
- *     9  For each label of D with an extent above 1: does its stride's size exceed the sum of (extent - 1) * stride size over
- *        the other labels of D whose stride size is no greater? (Strides summed for each letter.)
+ *     9  For each D label of extent above 1, does its stride's size exceed the sum of (extent - 1) * stride size over the
+ *        other D labels whose stride size is no greater? (Strides summed per letter.)
  *
  * The caller has to see to this, and to nothing else:
  *
@@ -82,8 +83,8 @@ uint32_t nezgrak_contract(
  * Returns 0, or the number of the first question whose answer is no: 1 to 9 of nezgrak_contract, then
  *
  *     10  Are rows and cols 1 to 64 and depth 1 to 128?
- *     11  Has work at least rows * depth + depth * cols words?
- *     12  Is done at most the total?
+ *     11  Has the work slice at least rows * depth + depth * cols words?
+ *     12  Is the count of tiles done at most the total?
  *
  * D and work are then unchanged, *done_after is done and *complete is 0.
  *
@@ -124,7 +125,7 @@ enum {
  *
  * Returns 0, or the number of the first question whose answer is no: 1 to 10 and 12 of nezgrak_run_tiles, then
  *
- *     13  Is each of the three counts below its group's size?
+ *     13  Is each of the three counts of the output index below its group's size?
  *
  * *state is then unchanged. A, B, D and the layouts are only read; of a, b and d only the counts matter. The caller has to see to
  * what nezgrak_contract says, where d is only read too, and to this: state points to one value that can be read and written, is

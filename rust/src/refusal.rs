@@ -38,18 +38,25 @@ impl Refusal {
     const fn finding(self) -> &'static str {
         match self.number {
             1 => "a tensor has more than 8 letters",
-            2 => "a tensor has not as many extents and strides as letters",
-            3 => "a letter is none of A to Z and a to z",
-            4 => "an extent is not from 1 to 65,536",
-            5 => "a stride's size, a base or a slice's length is over 16,777,216",
+            2 => "there are not as many extents and as many strides as letters",
+            3 => "a letter is not A to Z or a to z",
+            4 => "an extent is not 1 to 65,536",
+            5 => {
+                "a stride is not from -16,777,216 to 16,777,216, a base is above 16,777,216, \
+                 or a tensor's slice has more than 16,777,216 words"
+            }
             6 => "a letter has two extents",
-            7 => "the extents of all labels multiply to more than 1,073,741,824",
-            8 => "an entry falls outside its tensor's slice",
-            9 => "the strides of D do not keep its entries apart",
-            10 => "a tile's rows or columns are not from 1 to 64, or its depth is not from 1 to 128",
-            11 => "the work slice is too short for the packed blocks of a tile",
-            12 => "the count of tiles done is over the total",
-            13 => "a count of the output index is not below the size of its group",
+            7 => "the product of the extents of all different labels is above 1,073,741,824",
+            8 => "an entry of A, B or D falls outside its slice",
+            9 => {
+                "D's strides may let two indices meet in one word: for a D label of extent above 1, its stride's size \
+                 does not exceed the sum of (extent - 1) * stride size over the other D labels whose stride size is \
+                 no greater (strides summed per letter)"
+            }
+            10 => "rows or cols are not 1 to 64, or depth is not 1 to 128",
+            11 => "the work slice has fewer than rows * depth + depth * cols words",
+            12 => "the count of tiles done is above the total",
+            13 => "a count of the output index is not below its group's size",
             _ => "a question of another number",
         }
     }

@@ -23,10 +23,11 @@ CALLS = [
 ]
 # What the theorems say: all definitions of these files.
 STATEMENTS = [
-    "crates/plain/specs/Demand.antt",
-    "crates/tiled/specs/Demand.antt",
-    "crates/edges/specs/Edges.antt",
-    "crates/states/specs/Letters.antt",
+    "crates/meaning/specs/Demand2.antt",
+    "crates/plain/specs/PlainDemand.antt",
+    "crates/tiled/specs/Demand3.antt",
+    "crates/states/specs/StateLetters.antt",
+    "crates/edges/specs/Pinned.antt",
 ]
 USE = re.compile(r"^(?:ghost )?use Rattle·(\w+)(?:·specs)?\.specs\.([\w.]+)\.\{([^}]*)\}", re.M)
 START = re.compile(r" *(?:(?:(?:pub|abbrev|unfoldable|record|data) +)+|(?=\S+ : ))([^\s:]+)")
@@ -50,10 +51,10 @@ def indent(line):
 
 
 class Definitions:
-    """A file of specs/: the text of each definition, and for each name of it the definition that has it."""
+    """A file of specs/: the text of each definition, for each name of it the definition that has it, and which of these other files can use."""
 
     def __init__(self, path):
-        self.path, self.texts, self.home = path, {}, {}
+        self.path, self.texts, self.home, self.shared = path, {}, {}, set()
         text = re.sub(r"--.*", "", contents(path))
         self.used = used_names(text)
         around, name = "", None  # the line of the module that it stands in, and the definition
@@ -63,12 +64,18 @@ class Definitions:
                 around = around if indent(line) else ""
                 name, depth = start[1], indent(line)
                 self.home[name], self.texts[name] = name, around
+                if "pub" in start[0].split():
+                    self.shared.add(name)
             elif line.startswith("module "):
                 around, name = line, None
             elif inside and "data " in self.texts[name] and CONSTRUCTORS.match(line):
                 self.home.update((constructor, name) for constructor in CONSTRUCTORS.match(line)[1].split())
             if name:
                 self.texts[name] += "\n" + line
+
+    def names(self):
+        """The names that other files can use, constructors too."""
+        return [name for name, home in self.home.items() if home in self.shared]
 
     def reaches(self, name):
         """The definitions that a definition names: the file of each, and its name there."""
@@ -106,6 +113,17 @@ def reached_from(names):
     return reached
 
 
+def names_once(files):
+    """In what a reader has to believe, a name stands for one thing."""
+    places = {}
+    for path in files:
+        for name in Definitions(path).names():
+            places.setdefault(name, []).append(path)
+    twice = [f"{name} ({', '.join(paths)})" for name, paths in sorted(places.items()) if len(paths) > 1]
+    expect(not twice, "these names are defined twice in the files to believe:", "; ".join(twice))
+    yield f"the {len(places)} names of the definitions to believe are defined once each"
+
+
 def listed():
     """The files on the numbered list; a name alone stands in the folder of the one before it."""
     section = contents("docs/ARCHITECTURE.md").partition("## What to believe\n")[2].partition("\n## ")[0]
@@ -127,6 +145,7 @@ def check_reading_list():
     missing = [f"{path} (for {name})" for path, name in sorted(reached.items()) if path not in on_list]
     expect(not missing, "docs/ARCHITECTURE.md does not list", ", ".join(missing))
     yield f"the reading list has the {len(reached)} files that {len(calls)} calls and {len(STATEMENTS)} statements reach"
+    yield from names_once(on_list)
     for path in on_list:
         contents(path)
     yield f"the {len(on_list)} files of the reading list exist"

@@ -20,6 +20,8 @@ MISFIT = re.compile(
     r"|a dimension .*is expected"
     r"|this (?:clause|is applied to) )"
 )
+# The proofs of cases that quote the rules.
+CASES = re.compile(r"/proofs/\w+Cases\.antt$")
 # What is said of a function whose proof the toolchain makes by itself.
 UNPROVED = re.compile(r"^note: \S+: it is not proved that ", re.M)
 
@@ -40,7 +42,14 @@ def flaw(crate, name):
             return f"the proofs no longer fit: {path}: {declaration}: {' '.join(message.split())[:160]}"
     if not errors and not UNPROVED.search(log):
         return "no error shows a fact that fails"
+    if changes_rule(crate, name) and not any(CASES.search(path) for path, _, _ in errors):
+        return "it changes a definition and its code, and no case that quotes the rule refuses it"
     return None
+
+
+def changes_rule(crate, name):
+    """A wrong rule is put into the definition and the code together: the functions still meet their contracts."""
+    return "\nfile: specs/" in contents(f"crates/{crate}/must-fail/{name}.edit")
 
 
 def check_refusals():

@@ -1,2 +1,3 @@
 pub mod Block
+pub mod BlockCases
 pub mod Places

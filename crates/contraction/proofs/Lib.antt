@@ -1,1 +1,2 @@
+pub mod OrderCases
 pub mod SliceLengths

@@ -1,2 +1,3 @@
-pub mod Lists
 pub mod Operands
+pub mod OrderCases
+pub mod TensorAxes

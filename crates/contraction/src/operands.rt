@@ -1,4 +1,4 @@
-ghost use Rattle.contraction.specs.Lists.{LowRank, Lists};
+ghost use Rattle.contraction.specs.TensorAxes.{LowRank, Lists};
 use super::contraction::Contraction;
 use layout::axes::Axes;
 

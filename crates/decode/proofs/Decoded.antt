@@ -16,7 +16,7 @@ use Rattle.little_endian.proofs.Little.{length-numbers, numbers-bytes}
 use Rattle.records.specs.declared.records.LayoutPart.{LayoutPart}
 use Rattle.records.specs.declared.records.WordsPart.{WordsPart}
 use Rattle.records.specs.Records.{layoutAt}
-use Rattle.records.specs.Parts.{layoutIn, wordsOf, LayoutHeld, WordsHeld}
+use Rattle.records.specs.RecordParts.{layoutIn, wordsOf, LayoutHeld, WordsHeld}
 use Rattle.decode.specs.AtFront.{AtFront}
 
 -- its words have one byte where they do not have four

@@ -1,8 +1,8 @@
 ghost use mathlib.Core.Path.{_≡_};
 ghost use lib.ListN.{length};
-ghost use Rattle.records.specs.Parts.{layoutIn, wordsOf, LayoutHeld, WordsHeld};
-ghost use Rattle.jobfile.specs.Parts.{jobIn, JobHeld};
-ghost use Rattle.decode.specs.Values.{contractionIn};
+ghost use Rattle.records.specs.RecordParts.{layoutIn, wordsOf, LayoutHeld, WordsHeld};
+ghost use Rattle.jobfile.specs.JobParts.{jobIn, JobHeld};
+ghost use Rattle.decode.specs.JobValues.{contractionIn};
 ghost use Rattle.decode.specs.AtFront.{AtFront};
 use contraction::contraction::Contraction;
 use jobfile::reader::JobParts;

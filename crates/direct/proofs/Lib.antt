@@ -1,2 +1,2 @@
-pub mod Filled
-pub mod Runs
+pub mod DirectResult
+pub mod GroupRuns

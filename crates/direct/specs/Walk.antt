@@ -15,7 +15,7 @@ use Rattle.groups.specs.Foldable.{Foldable}
 use Rattle.offsets.specs.Counts.{offsetIn}
 use Rattle.offsets.specs.declared.offsets.Offsets.{Offsets}
 use Rattle.offsets.specs.Offsets.{wordsIn}
-use Rattle.offsets.specs.Lead.{lead}
+use Rattle.offsets.specs.FirstLabel.{firstLabel}
 use Rattle.meaning.specs.Meaning.{combined}
 use Rattle.direct.specs.declared.walk.Walk.{Walk}
 
@@ -68,6 +68,6 @@ pub record Walks (g : List Label) (w : Walk) : Type 0 where
   pub labels : over w ≡ g
   pub few : w .group .count ≤ axesLimit
   pub foldable : Foldable g
-  pub len : w .len ≡ lead g .extent
-  pub step : (o : Operand) → wordsIn (w .step) o ≡ wordOf 64 (lead g .stride o)
+  pub len : w .len ≡ firstLabel g .extent
+  pub step : (o : Operand) → wordsIn (w .step) o ≡ wordOf 64 (firstLabel g .stride o)
   pub counts : size g ≡ w .len * w .runs

@@ -28,7 +28,8 @@ fn fill_run(
     depth: Walk,
 )
     requires { ⌜ Walks (over depth) depth × Clear len (steps from step) (over depth) (now a) (now b) (length (now d)) ⌝ }
-    ensures { λ _. ⌜ now (d .exit) ≡ each len (λ v. filled alpha beta (over depth) (now (a .entry)) (now (b .entry)) (steps from step v)) (now (d .entry)) ⌝ }
+    ensures { λ _. ⌜ now (d .exit)
+        ≡ each len (λ v. filled alpha beta (over depth) (now (a .entry)) (now (b .entry)) (steps from step v)) (now (d .entry)) ⌝ }
 {
     let mut at = from;
     let mut v: u32 = 0;
@@ -53,8 +54,12 @@ pub fn fill(
     output: Walk,
     depth: Walk,
 )
-    requires { ⌜ Walks (over output) output × Walks (over depth) depth × Clear (size (over output)) (places base (over output)) (over depth) (now a) (now b) (length (now d)) ⌝ }
-    ensures { λ _. ⌜ now (d .exit) ≡ each (size (over output)) (λ m. filled alpha beta (over depth) (now (a .entry)) (now (b .entry)) (places base (over output) m)) (now (d .entry)) ⌝ }
+    requires { ⌜ Walks (over output) output
+        × Walks (over depth) depth
+        × Clear (size (over output)) (places base (over output)) (over depth) (now a) (now b) (length (now d)) ⌝ }
+    ensures { λ _. ⌜ now (d .exit)
+        ≡ each (size (over output))
+        (λ m. filled alpha beta (over depth) (now (a .entry)) (now (b .entry)) (places base (over output) m)) (now (d .entry)) ⌝ }
 {
     let group = output.group;
     let step = output.step;

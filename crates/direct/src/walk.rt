@@ -4,7 +4,7 @@ ghost use Rattle.groups.specs.Held.{labelsIn};
 ghost use Rattle.groups.specs.Foldable.{Foldable};
 ghost use Rattle.direct.specs.Walk.{Walks};
 use groups::groups::Group;
-use offsets::lead::Lead;
+use offsets::first_label::FirstLabel;
 use offsets::offsets::Offsets;
 
 // A group and how its counts are walked: in runs of its first label, `len` counts each, one step apart.
@@ -19,7 +19,7 @@ pub fn walk_of(g: Group) -> Walk
     requires { ⌜ (g .count ≤ axesLimit) × Foldable (labelsIn g) ⌝ }
     ensures { λ r. ⌜ Walks (labelsIn g) r ⌝ }
 {
-    let lead = Lead::of(g);
+    let lead = FirstLabel::of(g);
     let step = lead.step;
     let runs = if g.count == 0 { 1 } else { g.size_from(1) };
     Walk {

@@ -8,24 +8,24 @@ use lib.IntN.{pos}
 use Rattle.words.specs.Sums.{sumTo}
 use Rattle.words.specs.Loops.{each, put}
 use Rattle.layout.specs.Layout.{axes, axesOf, layoutOf, address}
-use Rattle.validity.specs.Questions.{rankFits, countsMatch, lettersValid, extentsValid, stridesValid, sizesValid}
+use Rattle.validity.specs.TensorQuestions.{rankFits, countsMatch, lettersValid, extentsValid, stridesValid, sizesValid}
 use Rattle.labels.specs.Labels.{labels}
-use Rattle.points.specs.Questions.{extentsAgree, points, pointsFit}
-use Rattle.entries.specs.Questions.{span, inside, below, apart}
+use Rattle.points.specs.LabelQuestions.{extentsAgree, points, pointsFit}
+use Rattle.entries.specs.EntryQuestions.{span, inside, below, apart}
 use Rattle.contraction.specs.declared.contraction.Contraction.{Contraction}
 use Rattle.contraction.specs.Operands.{three, contractionOf, together}
-use Rattle.questions.specs.Questions.{refusal, eachTensor, allLabels, entries, layoutQuestions}
+use Rattle.questions.specs.Questions.{tensorQuestions, labelQuestions, entryQuestions, layoutQuestions}
 use Rattle.groups.specs.Groups.{groupOf, inGroup, group}
 use Rattle.meaning.specs.Index.{index}
 use Rattle.meaning.specs.Meaning.{entry}
 use Rattle.tiles.specs.declared.grid.Sizes.{Sizes}
-use Rattle.tiles.specs.Cut.{blocks, width, MB, NB, KB, total, number, batchOf, columnOf, panelOf, rowOf}
+use Rattle.tiles.specs.Cut.{blocks, width, MB, NB, KB, total, tileNumber, batchOf, columnOf, panelOf, rowOf}
 use Rattle.tiles.specs.Progress.{old, part, final, done, doneCount, stateAt}
 use Rattle.tiles.specs.Setting.{Setting, panelSum, doneSum, wordAt, render, closed, addPanel, tileAt, tileStep, walk, tilesFrom}
-use Rattle.tile_blocks.specs.Setting.{addressAt, entryAt, setting}
-use Rattle.tile_questions.specs.Questions.{sizesFit, sizeQuestion, roomQuestion, doneQuestion, indexQuestion, acceptQuestions, tileQuestions, stateQuestions}
-use Rattle.tiled.specs.Call.{ran, refused, is, stateRefused, ranCall, tileCall, stateCall}
-use Rattle.tiled.specs.Demand.{Call, tiles, state, tiled, found, run}
+use Rattle.tile_blocks.specs.ContractionInTiles.{addressAt, entryAt, setting}
+use Rattle.tile_questions.specs.TileQuestions.{sizesFit, sizeQuestion, roomQuestion, doneQuestion, indexQuestion, acceptQuestions, Accepted, tileQuestions, stateQuestions}
+use Rattle.tiled.specs.TileCall.{ran, tileRefused, is, stateRefused, ranCall, tileCall, stateCall}
+use Rattle.tiled.specs.Demand3.{Call, tiles, state, tiled, found, run}
 
 -- letters i, j and k are 105, 106 and 107
 abbrev job : Contraction
@@ -57,12 +57,12 @@ S = setting job sizes (three a b d)
 
 -- D's words after 3 tiles and after all 8
 pub worked : (closed S 3 d ≡ 211 ∷ 402 ∷ 300 ∷ 400 ∷ []) × (closed S 8 d ≡ 211 ∷ 414 ∷ 608 ∷ 810 ∷ [])
-unfolding sumTo each put axes axesOf layoutOf address labels together groupOf inGroup group index entry blocks MB NB KB number done panelSum doneSum wordAt render closed addressAt entryAt setting
+unfolding sumTo each put axes axesOf layoutOf address labels together groupOf inGroup group index entry blocks MB NB KB tileNumber done panelSum doneSum wordAt render closed addressAt entryAt setting
 worked = (refl, refl)
 
-pub job-accepted : refusal (acceptQuestions job sizes (three a b d)) ≡ 0
-unfolding axes axesOf layoutOf labels together eachTensor allLabels entries layoutQuestions rankFits countsMatch lettersValid extentsValid stridesValid sizesValid extentsAgree points pointsFit span inside below apart acceptQuestions sizeQuestion sizesFit
-job-accepted = refl
+pub job-accepted : Accepted job sizes (three a b d)
+unfolding axes axesOf layoutOf labels together tensorQuestions labelQuestions entryQuestions layoutQuestions rankFits countsMatch lettersValid extentsValid stridesValid sizesValid extentsAgree points pointsFit span inside below apart acceptQuestions sizeQuestion sizesFit
+job-accepted = record { passed = refl }
 
 -- 3 tiles, a tile call that is refused since its work slice is empty, and questions for states
 abbrev part-way : List Call
@@ -75,10 +75,10 @@ to-the-end = tiles 3 work ∷ tiles 100 work ∷ tiles 1 work ∷ state 0 1 1 �
 -- what these calls answer and leave
 pub calls : (run job sizes a b part-way 0 d
     ≡ record {
-      said = found (is old) ∷ tiled (ran 3 false) ∷ tiled (refused 11 3) ∷ found (is final) ∷ found (is part) ∷ found (is old) ∷ found (stateRefused 13) ∷ [];
+      said = found (is old) ∷ tiled (ran 3 false) ∷ tiled (tileRefused 11 3) ∷ found (is final) ∷ found (is part) ∷ found (is old) ∷ found (stateRefused 13) ∷ [];
       t = 3;
       words = 211 ∷ 402 ∷ 300 ∷ 400 ∷ [];
     }) × (run job sizes a b to-the-end 0 d
     ≡ record { said = tiled (ran 3 false) ∷ tiled (ran 8 true) ∷ tiled (ran 8 true) ∷ found (is final) ∷ []; t = 8; words = 211 ∷ 414 ∷ 608 ∷ 810 ∷ [] })
-unfolding sumTo each put axes axesOf layoutOf address labels together groupOf inGroup group index entry eachTensor allLabels entries layoutQuestions rankFits countsMatch lettersValid extentsValid stridesValid sizesValid extentsAgree points pointsFit span inside below apart blocks width MB NB KB total number batchOf columnOf panelOf rowOf done doneCount stateAt panelSum addPanel tileAt tileStep walk tilesFrom addressAt entryAt setting acceptQuestions sizeQuestion sizesFit roomQuestion doneQuestion indexQuestion tileQuestions stateQuestions ranCall tileCall stateCall run
+unfolding sumTo each put axes axesOf layoutOf address labels together groupOf inGroup group index entry tensorQuestions labelQuestions entryQuestions layoutQuestions rankFits countsMatch lettersValid extentsValid stridesValid sizesValid extentsAgree points pointsFit span inside below apart blocks width MB NB KB total tileNumber batchOf columnOf panelOf rowOf done doneCount stateAt panelSum addPanel tileAt tileStep walk tilesFrom addressAt entryAt setting acceptQuestions sizeQuestion sizesFit roomQuestion doneQuestion indexQuestion tileQuestions stateQuestions ranCall tileCall stateCall run
 calls = (refl, refl)

@@ -4,12 +4,12 @@ use mathlib.Core.Path.{refl}
 use Rattle.words.specs.Sums.{All, sumTo}
 use Rattle.words.specs.Loops.{each, put}
 use Rattle.layout.specs.Layout.{axes, axesOf, layoutOf, address}
-use Rattle.validity.specs.Questions.{rankFits, countsMatch, lettersValid, extentsValid, stridesValid, sizesValid}
+use Rattle.validity.specs.TensorQuestions.{rankFits, countsMatch, lettersValid, extentsValid, stridesValid, sizesValid}
 use Rattle.labels.specs.Labels.{labels}
-use Rattle.points.specs.Questions.{extentsAgree, points, pointsFit}
-use Rattle.entries.specs.Questions.{span, inside, below, apart}
+use Rattle.points.specs.LabelQuestions.{extentsAgree, points, pointsFit}
+use Rattle.entries.specs.EntryQuestions.{span, inside, below, apart}
 use Rattle.contraction.specs.Operands.{together}
-use Rattle.questions.specs.Questions.{eachTensor, allLabels, entries, layoutQuestions}
+use Rattle.questions.specs.Questions.{tensorQuestions, labelQuestions, entryQuestions, layoutQuestions}
 use Rattle.groups.specs.Groups.{groupOf, inGroup, group, outputs}
 use Rattle.meaning.specs.Index.{outIndex}
 use Rattle.meaning.specs.Meaning.{entry, value, result}
@@ -17,6 +17,6 @@ use Rattle.block.specs.Block.{classify}
 use Rattle.edges.specs.Edges.{edges, Holds}
 
 pub edges-hold : All Holds edges
-unfolding axes axesOf layoutOf address together labels groupOf inGroup group entry value outputs outIndex result classify eachTensor allLabels entries layoutQuestions rankFits countsMatch lettersValid extentsValid stridesValid sizesValid extentsAgree points pointsFit span inside below apart sumTo each put
+unfolding axes axesOf layoutOf address together labels groupOf inGroup group entry value outputs outIndex result classify tensorQuestions labelQuestions entryQuestions layoutQuestions rankFits countsMatch lettersValid extentsValid stridesValid sizesValid extentsAgree points pointsFit span inside below apart sumTo each put
 edges-hold =
-    ((refl, refl), ((refl, refl), ((refl, refl), ((refl, refl), ((refl, refl), ((refl, refl), ((refl, refl), (refl, (refl, (refl, (refl, (refl, (refl, (refl, (refl, tt)))))))))))))))
+    ((refl, refl), ((refl, refl), ((refl, refl), ((refl, refl), ((refl, refl), ((refl, refl), ((refl, refl), (refl, (refl, (refl, (refl, (refl, (refl, (refl, (refl, (refl, (refl, tt)))))))))))))))))

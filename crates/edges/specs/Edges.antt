@@ -2,7 +2,7 @@
 -- Assumes nothing.
 use Prim.Native.Nat.{ℕ}
 use mathlib.Core.Path.{_≡_}
-use mathlib.Core.List.{List, [], _∷_, map}
+use mathlib.Core.List.{List, [], _∷_}
 use lib.IntN.{ℤ, pos, negsuc}
 use Rattle.layout.specs.declared.layout.Layout.{Layout}
 use Rattle.layout.specs.Layout.{layoutOf}
@@ -16,15 +16,15 @@ use Rattle.block.specs.Block.{Step, even, scattered, classify}
 -- a row of the table
 pub data Edge : Type 0 where
   gives : Contraction → Slices → List ℕ → Edge  -- accepted, and D's words afterwards
-  folds : List Label → List ℕ → Edge  -- the extents of the folded labels
+  folds : List Label → List Label → Edge  -- the labels of a group, and the folded ones: letters, extents, and strides in every tensor
   spaced : List ℕ → Step → Edge  -- the step of a block of offsets
-  answers : Contraction → Slices → ℕ → Edge  -- the number that questions 1 to 9 answer
+  asked : Contraction → Slices → ℕ → Edge  -- the number that questions 1 to 9 answer
 
 abbrev pub Holds : Edge → Type 0
 Holds (gives c w ws) = (firstNo c w ≡ 0) × (result c w ≡ ws)
-Holds (folds g es) = map (λ l. l .extent) (fold g) ≡ es
+Holds (folds g folded) = fold g ≡ folded
 Holds (spaced xs s) = classify xs ≡ s
-Holds (answers c w n) = firstNo c w ≡ n
+Holds (asked c w n) = firstNo c w ≡ n
 
 -- no letters; one letter `i`; letters `i` and `j`
 abbrev scalar : Layout
@@ -44,9 +44,9 @@ diagonal e s f u = layoutOf (105 ∷ 105 ∷ []) (e ∷ f ∷ []) (s ∷ u ∷ [
 abbrev plain : Layout → Layout → Layout → Contraction
 plain a b d = contractionOf a b d 1 0
 
--- a label with one stride in every tensor
-abbrev lab : ℕ → ℕ → ℤ → Label
-lab c e s = record { letter = c; extent = e; stride = λ o. s }
+-- a label with its stride in A, in B and in D
+abbrev lab : ℕ → ℕ → ℤ → ℤ → ℤ → Label
+lab c e a b d = record { letter = c; extent = e; stride = three a b d }
 
 abbrev pub edges : List Edge
 edges =
@@ -64,15 +64,21 @@ edges =
     ∷ gives (plain (vector 2 (pos 1) 0) (vector 2 (pos 1) 0) (vector 2 (pos 1) 0)) (three (2 ∷ 3 ∷ []) (5 ∷ 7 ∷ []) (0 ∷ 0 ∷ [])) (10 ∷ 21 ∷ [])
     -- 7. A `i`, base 2, stride -1, words 1 2 3; B `i` 1 0 0; D scalar: 3.
     ∷ gives (plain (vector 3 (negsuc 0) 2) (vector 3 (pos 1) 0) scalar) (three (1 ∷ 2 ∷ 3 ∷ []) (1 ∷ 0 ∷ 0 ∷ []) (0 ∷ [])) (3 ∷ [])
-    -- 8. Extents 2 3: strides 1 2 fold to extent 6, 1 3 don't fold.
-    ∷ folds (lab 105 2 (pos 1) ∷ lab 106 3 (pos 2) ∷ []) (6 ∷ [])
-    ∷ folds (lab 105 2 (pos 1) ∷ lab 106 3 (pos 3) ∷ []) (2 ∷ 3 ∷ [])
+    -- 8. Extents 2 3: strides 1 2 fold to extent 6, 1 3 don't fold. Here A's strides are those, B's 5 and 10, D's -3 and -6; then one tensor's second stride is
+    -- another.
+    ∷ folds (lab 105 2 (pos 1) (pos 5) (negsuc 2) ∷ lab 106 3 (pos 2) (pos 10) (negsuc 5) ∷ []) (lab 105 6 (pos 1) (pos 5) (negsuc 2) ∷ [])
+    ∷ folds (lab 105 2 (pos 1) (pos 5) (negsuc 2) ∷ lab 106 3 (pos 3) (pos 10) (negsuc 5) ∷ [])
+    (lab 105 2 (pos 1) (pos 5) (negsuc 2) ∷ lab 106 3 (pos 3) (pos 10) (negsuc 5) ∷ [])
+    ∷ folds (lab 105 2 (pos 1) (pos 5) (negsuc 2) ∷ lab 106 3 (pos 2) (pos 0) (negsuc 5) ∷ [])
+    (lab 105 2 (pos 1) (pos 5) (negsuc 2) ∷ lab 106 3 (pos 2) (pos 0) (negsuc 5) ∷ [])
+    ∷ folds (lab 105 2 (pos 1) (pos 5) (negsuc 2) ∷ lab 106 3 (pos 2) (pos 10) (pos 6) ∷ [])
+    (lab 105 2 (pos 1) (pos 5) (negsuc 2) ∷ lab 106 3 (pos 2) (pos 10) (pos 6) ∷ [])
     -- 9. Offsets 4 4 4 are even, step 0; 0 1 3 scattered.
     ∷ spaced (4 ∷ 4 ∷ 4 ∷ []) (even 0)
     ∷ spaced (0 ∷ 1 ∷ 3 ∷ []) scattered
     -- 10. D extents 3 2, strides 2 3: refused 9, though no words meet; strides 1 3 accepted. Stride 0: 9 at extent 2, accepted at 1.
-    ∷ answers (plain scalar scalar (matrix 3 (pos 2) 2 (pos 3))) (three (1 ∷ []) (1 ∷ []) (0 ∷ 0 ∷ 0 ∷ 0 ∷ 0 ∷ 0 ∷ 0 ∷ 0 ∷ [])) 9
-    ∷ answers (plain scalar scalar (matrix 3 (pos 1) 2 (pos 3))) (three (1 ∷ []) (1 ∷ []) (0 ∷ 0 ∷ 0 ∷ 0 ∷ 0 ∷ 0 ∷ [])) 0
-    ∷ answers (plain scalar scalar (vector 2 (pos 0) 0)) (three (1 ∷ []) (1 ∷ []) (0 ∷ [])) 9
-    ∷ answers (plain scalar scalar (vector 1 (pos 0) 0)) (three (1 ∷ []) (1 ∷ []) (0 ∷ [])) 0
+    ∷ asked (plain scalar scalar (matrix 3 (pos 2) 2 (pos 3))) (three (1 ∷ []) (1 ∷ []) (0 ∷ 0 ∷ 0 ∷ 0 ∷ 0 ∷ 0 ∷ 0 ∷ 0 ∷ [])) 9
+    ∷ asked (plain scalar scalar (matrix 3 (pos 1) 2 (pos 3))) (three (1 ∷ []) (1 ∷ []) (0 ∷ 0 ∷ 0 ∷ 0 ∷ 0 ∷ 0 ∷ [])) 0
+    ∷ asked (plain scalar scalar (vector 2 (pos 0) 0)) (three (1 ∷ []) (1 ∷ []) (0 ∷ [])) 9
+    ∷ asked (plain scalar scalar (vector 1 (pos 0) 0)) (three (1 ∷ []) (1 ∷ []) (0 ∷ [])) 0
     ∷ []

@@ -1,1 +1,4 @@
 pub mod Edges
+pub mod JobCases
+pub mod LabelKinds
+pub mod Pinned

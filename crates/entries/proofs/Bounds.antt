@@ -9,24 +9,24 @@ use native.Mathlib.Nat.{mul-le-mul-right, min-le-right, suc-min-suc, min-zero}
 use native.Mathlib.Omega.{arith}
 use lib.IntN.{ℤ, pos, negsuc}
 use lib.Dec.{T, leb, ltb, leb→le, le→leb, ltb→lt, lt→ltb}
-use Rattle.words.specs.Sums.{total, All}
+use Rattle.words.specs.Sums.{sumOf, All}
 use Rattle.words.specs.Words.{up, down}
 use Rattle.words.proofs.Lists.{all-imp, all-of}
-use Rattle.words.proofs.Sums.{total-zero, and-split, and-join}
+use Rattle.words.proofs.Sums.{sumOf-zero, and-split, and-join}
 use Rattle.layout.specs.declared.layout.Axis.{Axis}
 use Rattle.layout.specs.declared.layout.Layout.{Layout}
 use Rattle.layout.specs.Layout.{axes, address}
-use Rattle.validity.specs.Questions.{extentsValid}
+use Rattle.validity.specs.TensorQuestions.{extentsValid}
 use Rattle.labels.specs.Labels.{strideOf, extentOf, labels}
 use Rattle.labels.proofs.Facts.{extents-bound}
-use Rattle.entries.specs.Questions.{span, inside}
+use Rattle.entries.specs.EntryQuestions.{span, inside}
 use Rattle.entries.specs.Bounds.{InRange, Inside}
 use Rattle.entries.proofs.ByLabel.{over, axes-labels}
-use Rattle.entries.proofs.Injective.{total-le}
+use Rattle.entries.proofs.Injective.{sumOf-le}
 
 over-le-span : (part : ℤ → ℕ) (xs : List Axis) (ρ : ℕ → ℕ) → InRange xs ρ → over part xs ρ ≤ span part xs
 unfolding span
-over-le-span part xs ρ h = total-le _ _ (labels xs) (all-imp (λ c b. mul-le-mul-right {m = ρ c} {n = extentOf c xs - 1} (part (strideOf c xs)) (omega arith)) (labels xs) h)
+over-le-span part xs ρ h = sumOf-le _ _ (labels xs) (all-imp (λ c b. mul-le-mul-right {m = ρ c} {n = extentOf c xs - 1} (part (strideOf c xs)) (omega arith)) (labels xs) h)
 
 inside-le : (xs : List Axis) (base n : ℕ) → T (inside xs base n) ↔ ((span down xs ≤ base) × (base + span up xs < n))
 unfolding inside
@@ -72,7 +72,7 @@ module _ (xs : List Axis) (part : ℤ → ℕ) where
   corner-in p = all-imp (λ c. toward-lt part (strideOf c xs) (extentOf c xs)) (labels xs) p
 
   corner-over : (other : ℤ → ℕ) (f : ℤ → ℕ → ℕ) → ((s : ℤ) (e : ℕ) → toward part s e * other s ≡ f s e)
-      → (cs : List ℕ) → total (λ c. corner c * other (strideOf c xs)) cs ≡ total (λ c. f (strideOf c xs) (extentOf c xs)) cs
+      → (cs : List ℕ) → sumOf (λ c. corner c * other (strideOf c xs)) cs ≡ sumOf (λ c. f (strideOf c xs) (extentOf c xs)) cs
   unfolding corner
   corner-over other f h [] = refl
   corner-over other f h (c ∷ cs) = rw (h (strideOf c xs) (extentOf c xs), corner-over other f h cs)
@@ -95,7 +95,7 @@ module _ (l : Layout) (n : ℕ) where
   every-inside p f =
       let xs : List Axis = axes l in
       let cs : List ℕ = labels xs in
-      let none = total-zero cs in
+      let none = sumOf-zero cs in
       let low = f (corner xs down) (corner-in xs down p) in
       let high = f (corner xs up) (corner-in xs up p) in
       inside-le xs (l .base) n .1 (

@@ -8,11 +8,11 @@ use native.Mathlib.Nat.{mul-zero, mul-add}
 use native.Mathlib.Omega.{arith}
 use lib.IntN.{ℤ}
 use lib.Dec.{eqb}
-use Rattle.words.specs.Sums.{total, All}
+use Rattle.words.specs.Sums.{sumOf, All}
 use Rattle.words.specs.Lists.{member}
 use Rattle.words.specs.Words.{up, down}
-use Rattle.words.proofs.Lists.{Unique, distinct-unique, all-imp, member-distinct, covers, total-single}
-use Rattle.words.proofs.Sums.{total-ext, total-add, total-zero}
+use Rattle.words.proofs.Lists.{Unique, distinct-unique, all-imp, member-distinct, covers, sumOf-single}
+use Rattle.words.proofs.Sums.{sumOf-ext, sumOf-add, sumOf-zero}
 use Rattle.layout.specs.declared.layout.Axis.{Axis}
 use Rattle.layout.specs.Layout.{lettersOf, along}
 use Rattle.labels.specs.Labels.{strideOf, labels}
@@ -28,23 +28,23 @@ unfolding labels
 labels-cover xs = all-imp (λ a. member-distinct (a .letter) (lettersOf xs)) xs (covers (λ a. a .letter) xs)
 
 by-letter : (part : ℤ → ℕ) (xs : List Axis) (ρ : ℕ → ℕ) (cs : List ℕ) → Unique cs → All (λ a. member (a .letter) cs ≡ true) xs
-    → along part xs ρ ≡ total (λ c. ρ c * partOf part xs c) cs
-by-letter part [] ρ cs u m = sym (total-ext (λ c. mul-zero (ρ c)) cs ∙ total-zero cs)
+    → along part xs ρ ≡ sumOf (λ c. ρ c * partOf part xs c) cs
+by-letter part [] ρ cs u m = sym (sumOf-ext (λ c. mul-zero (ρ c)) cs ∙ sumOf-zero cs)
 by-letter part (a ∷ xs) ρ cs u m =
-    sym (total-ext (λ c. mul-add (ρ c) _ _) cs ∙ total-add (λ c. ρ c * cond (eqb (a .letter) c) (part (a .stride)) 0) (λ c. ρ c * partOf part xs c) cs
-    ∙ ap₂ _+_ (total-single (a .letter) (part (a .stride)) ρ cs u (m .0)) (sym (by-letter part xs ρ cs u (m .1))))
+    sym (sumOf-ext (λ c. mul-add (ρ c) _ _) cs ∙ sumOf-add (λ c. ρ c * cond (eqb (a .letter) c) (part (a .stride)) 0) (λ c. ρ c * partOf part xs c) cs
+    ∙ ap₂ _+_ (sumOf-single (a .letter) (part (a .stride)) ρ cs u (m .0)) (sym (by-letter part xs ρ cs u (m .1))))
 
 -- Σ over the labels of the index × a part of the stride
 abbrev pub over : (ℤ → ℕ) → List Axis → (ℕ → ℕ) → ℕ
-over part xs ρ = total (λ c. ρ c * part (strideOf c xs)) (labels xs)
+over part xs ρ = sumOf (λ c. ρ c * part (strideOf c xs)) (labels xs)
 
 module _ (xs : List Axis) (ρ : ℕ → ℕ) where
-  parts : (cs : List ℕ) → total (λ c. ρ c * up (strideOf c xs)) cs + total (λ c. ρ c * partOf down xs c) cs
-      ≡ total (λ c. ρ c * down (strideOf c xs)) cs + total (λ c. ρ c * partOf up xs c) cs
+  parts : (cs : List ℕ) → sumOf (λ c. ρ c * up (strideOf c xs)) cs + sumOf (λ c. ρ c * partOf down xs c) cs
+      ≡ sumOf (λ c. ρ c * down (strideOf c xs)) cs + sumOf (λ c. ρ c * partOf up xs c) cs
   parts [] = refl
   parts (c ∷ cs) = omega (arith, parts cs, ap (λ (x : ℕ). ρ c * x) (strideOf-parts c xs))
 
-  by-label : (part : ℤ → ℕ) → along part xs ρ ≡ total (λ c. ρ c * partOf part xs c) (labels xs)
+  by-label : (part : ℤ → ℕ) → along part xs ρ ≡ sumOf (λ c. ρ c * partOf part xs c) (labels xs)
   by-label part = by-letter part xs ρ (labels xs) (labels-unique xs) (labels-cover xs)
 
   -- by axes or by labels, the two parts differ alike

@@ -9,23 +9,23 @@ use native.Mathlib.Nat.{mul-le-mul-right, lt-irrefl, lt-trans, lt-of-not-le, lt-
 use native.Mathlib.Decide.{ℕ-discrete, decLe}
 use native.Mathlib.Omega.{arith}
 use lib.Dec.{T, leb, nleb→lt, le→leb}
-use Rattle.words.specs.Sums.{total, All}
+use Rattle.words.specs.Sums.{sumOf, All}
 use Rattle.words.proofs.Lists.{all-imp, all-both, all-at}
-use Rattle.words.proofs.Sums.{total-add}
+use Rattle.words.proofs.Sums.{sumOf-add}
 
-pub total-le : {X : Type 0} (f h : X → ℕ) (xs : List X) → All (λ l. f l ≤ h l) xs → total f xs ≤ total h xs
-total-le f h [] a = omega arith
-total-le f h (x ∷ xs) a = omega (arith, total-le f h xs (a .1))
+pub sumOf-le : {X : Type 0} (f h : X → ℕ) (xs : List X) → All (λ l. f l ≤ h l) xs → sumOf f xs ≤ sumOf h xs
+sumOf-le f h [] a = omega arith
+sumOf-le f h (x ∷ xs) a = omega (arith, sumOf-le f h xs (a .1))
 
 -- and by as much less, at least, as at one member
-total-le-at : {X : Type 0} (f h : X → ℕ) (d : ℕ) {m : X} {xs : List X} → List·Memᴰ m xs → All (λ l. f l ≤ h l) xs → f m + d ≤ h m → total f xs + d ≤ total h xs
-total-le-at f h d (List·Memᴰ·head {xs = xs} p) a b = omega (arith, rw p at b, total-le f h xs (a .1))
-total-le-at f h d (List·Memᴰ·tail t) a b = omega (arith, total-le-at f h d t (a .1) b)
+sumOf-le-at : {X : Type 0} (f h : X → ℕ) (d : ℕ) {m : X} {xs : List X} → List·Memᴰ m xs → All (λ l. f l ≤ h l) xs → f m + d ≤ h m → sumOf f xs + d ≤ sumOf h xs
+sumOf-le-at f h d (List·Memᴰ·head {xs = xs} p) a b = omega (arith, rw p at b, sumOf-le f h xs (a .1))
+sumOf-le-at f h d (List·Memᴰ·tail t) a b = omega (arith, sumOf-le-at f h d t (a .1) b)
 
 module _ {X : Type 0} (e s : X → ℕ) where
   -- how far the labels with strides up to t reach
   abbrev pub reach : List X → ℕ → ℕ
-  reach xs t = total (λ l. cond (leb (s l) t) ((e l - 1) * s l) 0) xs
+  reach xs t = sumOf (λ l. cond (leb (s l) t) ((e l - 1) * s l) 0) xs
 
   -- a member at which x and y differ, and no member of greater stride does
   record Top (x y : X → ℕ) (xs : List X) : Type 0 where
@@ -50,12 +50,12 @@ module _ {X : Type 0} (e s : X → ℕ) where
 
   -- the sums differ as the indices at the top do
   strict : (x y : X → ℕ) (xs : List X) → All (λ l. y l < e l) xs → (p : Top x y xs) → y (p .top) < x (p .top)
-      → reach xs (s (p .top)) < e (p .top) * s (p .top) → total (λ l. y l * s l) xs < total (λ l. x l * s l) xs
+      → reach xs (s (p .top)) < e (p .top) * s (p .top) → sumOf (λ l. y l * s l) xs < sumOf (λ l. x l * s l) xs
   strict x y xs b p lt room =
       omega (
         arith,
-        total-add (λ l. x l * s l) (λ l. cond (leb (s l) (s (p .top))) ((e l - 1) * s l) 0) xs,
-        total-le-at (λ l. y l * s l) (λ l. x l * s l + cond (leb (s l) (s (p .top))) ((e l - 1) * s l) 0) (e (p .top) * s (p .top)) (p .inside)
+        sumOf-add (λ l. x l * s l) (λ l. cond (leb (s l) (s (p .top))) ((e l - 1) * s l) 0) xs,
+        sumOf-le-at (λ l. y l * s l) (λ l. x l * s l + cond (leb (s l) (s (p .top))) ((e l - 1) * s l) 0) (e (p .top) * s (p .top)) (p .inside)
             (all-imp (λ l h. each l (leb (s l) (s (p .top))) (nleb→lt _ _) (h .0) (h .1)) xs (all-both _ _ xs b (p .above)))
             (own (leb (s (p .top)) (s (p .top))) (le→leb (s (p .top)) (s (p .top)) (le-refl _)) (all-at (λ l. y l < e l) (p .inside) b)),
       )
@@ -73,7 +73,7 @@ module _ {X : Type 0} (e s : X → ℕ) where
 
   -- where each stride that counts leaves room for all that are no greater, equal sums have equal indices
   pub equal-sums : (x y : X → ℕ) (xs : List X) → All (λ l. x l < e l) xs → All (λ l. y l < e l) xs
-      → All (λ l. 1 < e l → reach xs (s l) < e l * s l) xs → total (λ l. x l * s l) xs ≡ total (λ l. y l * s l) xs → All (λ l. x l ≡ y l) xs
+      → All (λ l. 1 < e l → reach xs (s l) < e l * s l) xs → sumOf (λ l. x l * s l) xs ≡ sumOf (λ l. y l * s l) xs → All (λ l. x l ≡ y l) xs
   equal-sums x y xs bx by room sums = go (find x y xs)
     where
       flip : Top x y xs → Top y x xs

@@ -7,7 +7,7 @@ use Prim.Native.Nat.{ℕ, _+_}
 use native.Mathlib.Omega.{arith}
 use lib.IntN.{ℤ, pos, _+ℤ_}
 use lib.Dec.{eqb}
-use Rattle.words.specs.Sums.{total}
+use Rattle.words.specs.Sums.{sumOf}
 use Rattle.words.specs.Words.{up, down}
 use Rattle.words.proofs.Whole.{add-parts}
 use Rattle.layout.specs.declared.layout.Axis.{Axis}
@@ -15,7 +15,7 @@ use Rattle.labels.specs.Labels.{strideOf}
 
 -- Σ over the axes of a letter of a part of the stride
 abbrev pub partOf : (ℤ → ℕ) → List Axis → ℕ → ℕ
-partOf part xs c = total (λ a. cond (eqb (a .letter) c) (part (a .stride)) 0) xs
+partOf part xs c = sumOf (λ a. cond (eqb (a .letter) c) (part (a .stride)) 0) xs
 
 pub strideOf-parts : (c : ℕ) (xs : List Axis) → up (strideOf c xs) + partOf down xs c ≡ down (strideOf c xs) + partOf up xs c
 strideOf-parts c [] = refl

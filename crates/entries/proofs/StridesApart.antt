@@ -8,19 +8,19 @@ use Prim.Native.Nat.{ℕ, _+_, _*_, _-_, _≤_, _<_}
 use native.Mathlib.Omega.{arith}
 use lib.IntN.{ℤ, pos, negsuc, natAbs}
 use lib.Dec.{T, eqb, leb, ltb, leb→le, ltb→lt}
-use Rattle.words.specs.Sums.{total, All}
+use Rattle.words.specs.Sums.{sumOf, All}
 use Rattle.words.specs.Lists.{member}
 use Rattle.words.specs.Words.{up, down}
-use Rattle.words.proofs.Lists.{all-imp, all-of, all-both, eqb-true, total-single, members}
-use Rattle.words.proofs.Sums.{total-add, every-all}
+use Rattle.words.proofs.Lists.{all-imp, all-of, all-both, eqb-true, sumOf-single, members}
+use Rattle.words.proofs.Sums.{sumOf-add, every-all}
 use Rattle.layout.specs.declared.layout.Axis.{Axis}
 use Rattle.layout.specs.declared.layout.Layout.{Layout}
 use Rattle.layout.specs.Layout.{axes, address}
 use Rattle.labels.specs.Labels.{strideOf, extentOf, labels}
-use Rattle.entries.specs.Questions.{strideSize, below, apart}
+use Rattle.entries.specs.EntryQuestions.{strideSize, below, apart}
 use Rattle.entries.specs.Bounds.{InRange, Inside}
 use Rattle.entries.proofs.ByLabel.{labels-unique, axes-labels}
-use Rattle.entries.proofs.Injective.{total-le, reach, equal-sums}
+use Rattle.entries.proofs.Injective.{sumOf-le, reach, equal-sums}
 
 -- of two indices the one that counts upwards at a stride
 abbrev pick : ℤ → ℕ → ℕ → ℕ
@@ -56,9 +56,9 @@ module _ (xs : List Axis) where
   reach-below d m =
       omega (
         arith,
-        total-single d ((ext d - 1) * step d) (λ c. 1) (labels xs) (labels-unique xs) m,
-        total-add other own (labels xs),
-        total-le (λ c. cond (leb (step c) (step d)) ((ext c - 1) * step c) 0) (λ c. other c + own c) (labels xs)
+        sumOf-single d ((ext d - 1) * step d) (λ c. 1) (labels xs) (labels-unique xs) m,
+        sumOf-add other own (labels xs),
+        sumOf-le (λ c. cond (leb (step c) (step d)) ((ext c - 1) * step c) 0) (λ c. other c + own c) (labels xs)
             (all-of (λ c. each c (eqb d c) (eqb-true d c) (leb (step c) (step d))) (labels xs)),
       )
     where
@@ -94,7 +94,7 @@ module _ (xs : List Axis) where
   upper ρ σ c = pick (strideOf c xs) (ρ c) (σ c)
 
   upper-sum : (ρ σ : ℕ → ℕ) (cs : List ℕ)
-      → total (λ c. upper ρ σ c * step c) cs ≡ total (λ c. ρ c * up (strideOf c xs)) cs + total (λ c. σ c * down (strideOf c xs)) cs
+      → sumOf (λ c. upper ρ σ c * step c) cs ≡ sumOf (λ c. ρ c * up (strideOf c xs)) cs + sumOf (λ c. σ c * down (strideOf c xs)) cs
   unfolding upper step
   upper-sum ρ σ [] = refl
   upper-sum ρ σ (c ∷ cs) = omega (arith, upper-sum ρ σ cs, pick-mul (strideOf c xs) (ρ c) (σ c))

@@ -6,12 +6,12 @@ ghost use Rattle.layout.specs.Listed.{listed};
 ghost use Rattle.validity.specs.Checked.{Checked};
 ghost use Rattle.labels.specs.Labels.{labels, extentOf};
 ghost use Rattle.labels.specs.LetterSets.{Spells};
-ghost use Rattle.entries.specs.Questions.{strideSize, below, apart};
+ghost use Rattle.entries.specs.EntryQuestions.{strideSize, below, apart};
 use labels::labels::extent_of;
 use labels::labels::last_index;
 use labels::labels::stride_of;
-use labels::letters::Letters;
-use labels::letters::letters_of;
+use labels::letter_sets::Letters;
+use labels::letter_sets::letters_of;
 use layout::axes::Axes;
 
 // The size of a letter's stride.
@@ -26,7 +26,9 @@ fn stride_size(x: Axes, c: u8) -> u64
 // What the label d adds to the sum that c's stride size has to exceed.
 fn share(x: Axes, c: u8, d: u8) -> u64
     requires { ⌜ Checked x ⌝ }
-    ensures { λ r. ⌜ (r ≡ cond (not (eqb c d) && leb (strideSize (listed x) d) (strideSize (listed x) c)) ((extentOf d (listed x) - 1) * strideSize (listed x) d) 0) × (r < 2 ^ 48) ⌝ }
+    ensures { λ r. ⌜ (r ≡ cond (not (eqb c d) && leb (strideSize (listed x) d) (strideSize (listed x) c))
+        ((extentOf d (listed x) - 1) * strideSize (listed x) d) 0)
+        × (r < 2 ^ 48) ⌝ }
 {
     let size = stride_size(x, d);
     if (c != d) & (size <= stride_size(x, c)) {

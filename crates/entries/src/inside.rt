@@ -4,11 +4,11 @@ ghost use Rattle.words.specs.Words.{up, down, signed};
 ghost use Rattle.limits.specs.Limits.{extentLimit};
 ghost use Rattle.layout.specs.Listed.{listed};
 ghost use Rattle.validity.specs.Checked.{Checked};
-ghost use Rattle.entries.specs.Questions.{span, inside};
+ghost use Rattle.entries.specs.EntryQuestions.{span, inside};
 use labels::labels::extent_of;
 use labels::labels::last_index;
 use labels::labels::stride_of;
-use labels::letters::letters_of;
+use labels::letter_sets::letters_of;
 use layout::axes::Axes;
 
 // How far the entries of a tensor reach above and below its base.
@@ -20,8 +20,13 @@ pub struct Reach {
 impl Reach {
     // The reach with one label more.
     fn with(self, extent: u32, stride: u64) -> Reach
-        requires { ⌜ (self .up < 2 ^ 60) × (self .down < 2 ^ 60) × (extent ≤ extentLimit) × (up (signed 64 stride) < 2 ^ 32) × (down (signed 64 stride) < 2 ^ 32) ⌝ }
-        ensures { λ r. ⌜ (r .up ≡ (extent - 1) * up (signed 64 stride) + self .up) × (r .down ≡ (extent - 1) * down (signed 64 stride) + self .down) ⌝ }
+        requires { ⌜ (self .up < 2 ^ 60)
+            × (self .down < 2 ^ 60)
+            × (extent ≤ extentLimit)
+            × (up (signed 64 stride) < 2 ^ 32)
+            × (down (signed 64 stride) < 2 ^ 32) ⌝ }
+        ensures { λ r. ⌜ (r .up ≡ (extent - 1) * up (signed 64 stride) + self .up)
+            × (r .down ≡ (extent - 1) * down (signed 64 stride) + self .down) ⌝ }
     {
         let last = last_index(extent);
         let above = last * words::up(stride);

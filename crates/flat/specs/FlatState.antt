@@ -2,12 +2,12 @@
 -- Assumes nothing.
 use Prim.Native.Nat.{ℕ}
 use Rattle.tiles.specs.Progress.{old, part, final}
-use Rattle.tiled.specs.Call.{StateAnswer, is, stateRefused}
+use Rattle.tiled.specs.TileCall.{StateAnswer, is, stateRefused}
 
 -- the number that is returned: 0 where there is a state
-abbrev pub stateNumber : StateAnswer → ℕ
-stateNumber (is s) = 0
-stateNumber (stateRefused number) = number
+abbrev pub stateStatus : StateAnswer → ℕ
+stateStatus (is s) = 0
+stateStatus (stateRefused number) = number
 
 -- the state as a number, which stays as it was where the question was refused
 abbrev pub stateAfter : StateAnswer → ℕ → ℕ
@@ -18,11 +18,11 @@ stateAfter (stateRefused number) before = before
 
 -- what a question returns, and the number that it sets
 pub record FlatState : Type 0 where
-  pub number : ℕ
+  pub status : ℕ
   pub state : ℕ
 
 abbrev pub stateReturned : ℕ → ℕ → FlatState
-stateReturned number state = record { number = number; state = state }
+stateReturned status state = record { status = status; state = state }
 
 abbrev pub flatState : ℕ → StateAnswer → FlatState
-flatState before answer = stateReturned (stateNumber answer) (stateAfter answer before)
+flatState before answer = stateReturned (stateStatus answer) (stateAfter answer before)

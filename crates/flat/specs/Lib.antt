@@ -1,3 +1,4 @@
 pub mod Flat
 pub mod FlatState
 pub mod FlatTiles
+pub mod StatusCases

@@ -21,7 +21,11 @@ pub fn contraction_of(
     alpha: u32,
     beta: u32,
 ) -> Contraction
-    ensures { λ r. ⌜ r ≡ contractionOf (layoutOf (now («a_letters» .entry)) (now («a_extents» .entry)) (now («a_strides» .entry)) «a_base») (layoutOf (now («b_letters» .entry)) (now («b_extents» .entry)) (now («b_strides» .entry)) «b_base») (layoutOf (now («d_letters» .entry)) (now («d_extents» .entry)) (now («d_strides» .entry)) «d_base») alpha beta ⌝ }
+    ensures { λ r. ⌜ r ≡ contractionOf
+        (layoutOf (now («a_letters» .entry)) (now («a_extents» .entry)) (now («a_strides» .entry)) «a_base»)
+        (layoutOf (now («b_letters» .entry)) (now («b_extents» .entry)) (now («b_strides» .entry)) «b_base»)
+        (layoutOf (now («d_letters» .entry)) (now («d_extents» .entry)) (now («d_strides» .entry)) «d_base»)
+        alpha beta ⌝ }
 {
     let a = Layout::new(a_letters, a_extents, a_strides, a_base);
     let b = Layout::new(b_letters, b_extents, b_strides, b_base);

@@ -1,11 +1,11 @@
 ghost use mathlib.Core.Path.{_≡_};
-ghost use Rattle.plain.specs.Call.{answerOf};
-ghost use Rattle.flat.specs.Flat.{number};
+ghost use Rattle.plain.specs.PlainCall.{plainAnswer};
+ghost use Rattle.flat.specs.Flat.{plainStatus};
 use plain::call::Outcome;
 
 // An outcome as a number: 0 where the call is done.
-pub fn code_of(outcome: Outcome) -> u32
-    ensures { λ r. ⌜ r ≡ number (answerOf outcome) ⌝ }
+pub fn status_of(outcome: Outcome) -> u32
+    ensures { λ r. ⌜ r ≡ plainStatus (plainAnswer outcome) ⌝ }
 {
     match outcome {
         Outcome::Done => 0,

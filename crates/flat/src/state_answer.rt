@@ -1,11 +1,11 @@
 ghost use mathlib.Core.Path.{_≡_};
-ghost use Rattle.tiled.specs.Call.{stateAnswer};
-ghost use Rattle.flat.specs.FlatState.{stateNumber, stateAfter};
+ghost use Rattle.tiled.specs.TileCall.{stateAnswer};
+ghost use Rattle.flat.specs.FlatState.{stateStatus, stateAfter};
 use tiled::call::Found;
 
 // An answer as a number: 0 where it is a state.
-pub fn number_of(found: Found) -> u32
-    ensures { λ r. ⌜ r ≡ stateNumber (stateAnswer found) ⌝ }
+pub fn status_of(found: Found) -> u32
+    ensures { λ r. ⌜ r ≡ stateStatus (stateAnswer found) ⌝ }
 {
     match found {
         Found::Old => 0,

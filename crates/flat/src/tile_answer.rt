@@ -1,11 +1,11 @@
 ghost use mathlib.Core.Path.{_≡_};
-ghost use Rattle.tiled.specs.Call.{tileAnswer, doneIn};
-ghost use Rattle.flat.specs.FlatTiles.{tileNumber, saidComplete};
+ghost use Rattle.tiled.specs.TileCall.{tileAnswer, doneIn};
+ghost use Rattle.flat.specs.FlatTiles.{tileStatus, saidComplete};
 use tiled::call::Outcome;
 
 // An outcome as a number: 0 where the call ran.
-pub fn number_of(outcome: Outcome) -> u32
-    ensures { λ r. ⌜ r ≡ tileNumber (tileAnswer outcome) ⌝ }
+pub fn status_of(outcome: Outcome) -> u32
+    ensures { λ r. ⌜ r ≡ tileStatus (tileAnswer outcome) ⌝ }
 {
     match outcome {
         Outcome::Ran {

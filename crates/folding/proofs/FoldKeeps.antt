@@ -16,7 +16,7 @@ use Rattle.words.proofs.Sums.{every-all}
 use Rattle.contraction.specs.Operands.{Operand, A, B, D, operands}
 use Rattle.groups.specs.Groups.{Label, size}
 use Rattle.offsets.specs.Counts.{offset}
-use Rattle.folding.specs.Fold.{eqℤ, follows, joins, join, joinFrom, joinAll, counts, fold}
+use Rattle.folding.specs.Fold.{eqℤ, follows, joins, join, joinFrom, joinAll, notOne, fold}
 
 -- two digits of a count, read as one
 pub mod-mul : (n c m : ℕ) → n % (c * m) ≡ n % c + c * (n / c % m)
@@ -65,11 +65,11 @@ module _ (w : Label → ℕ) (scales : Scales w) where
   alike-one : (l : Label) (g : List Label) → l .extent ≡ 1 → Alike w g (l ∷ g)
   alike-one l g e = record { sizes = rw e (omega arith); offsets = λ n. rw (e, mod-one, div-one) (omega arith) }
 
-  alike-keep : (g : List Label) → Alike w (keep counts g) g
+  alike-keep : (g : List Label) → Alike w (keep notOne g) g
   alike-keep [] = alike-refl
   alike-keep (l ∷ g) = go (eqb (l .extent) 1) (eqb→eq (l .extent) 1) (alike-keep g)
     where
-      go : (b : Bool) → (T b → l .extent ≡ 1) → Alike w (keep counts g) g → Alike w (cons-if (not b) l (keep counts g)) (l ∷ g)
+      go : (b : Bool) → (T b → l .extent ≡ 1) → Alike w (keep notOne g) g → Alike w (cons-if (not b) l (keep notOne g)) (l ∷ g)
       go true t e = alike-trans e (alike-one l g (t tt))
       go false t e = alike-cons l e
 

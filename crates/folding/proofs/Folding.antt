@@ -15,8 +15,8 @@ use Rattle.words.specs.Words.{up, down}
 use Rattle.limits.specs.Limits.{productLimit}
 use Rattle.groups.specs.Groups.{Label, size}
 use Rattle.groups.specs.Foldable.{Small, Foldable}
-use Rattle.folding.specs.Fold.{eqℤ, joins, join, joinFrom, joinAll, counts, fold}
-use Rattle.folding.specs.Added.{addTo}
+use Rattle.folding.specs.Fold.{eqℤ, joins, join, joinFrom, joinAll, notOne, fold}
+use Rattle.folding.specs.FoldedWith.{addTo}
 
 -- two whole numbers are equal where both parts are
 pub eq-parts : (x y : ℤ) → (eqb (up x) (up y) && eqb (down x) (down y)) ≡ eqℤ x y
@@ -91,7 +91,7 @@ resume-add (q ∷ p ∷ g) l r = later q p g l r ∙ ap (λ (h : List Label). q 
 
 -- the labels of a list, of which those up to a place are folded and the others are still to come
 pub record Folding (done rest all : List Label) : Type 0 where
-  pub goes : resume done (keep counts rest) ≡ fold all
+  pub goes : resume done (keep notOne rest) ≡ fold all
   pub foldable : Foldable done
   pub extents : All (λ l. 0 < l .extent) rest
   pub strides : All Small rest
@@ -126,7 +126,7 @@ module _ (done rest all : List Label) (l : Label) (f : Folding done (l ∷ rest)
   pub fold-add : (l .extent ≡ 1 → ⊥) → Folding (addTo done l) rest all
   fold-add n =
       record {
-        goes = resume-add done l (keep counts rest) ∙ (rw (ne-eqb (l .extent) 1 n) at (f .goes));
+        goes = resume-add done l (keep notOne rest) ∙ (rw (ne-eqb (l .extent) 1 n) at (f .goes));
         foldable =
             record {
               extents = all-add (λ q. 0 < q .extent) (λ p q. mul-pos) done l (f .foldable .extents) (f .extents .0);

@@ -1,2 +1,3 @@
+pub mod FoldCases
 pub mod FoldKeeps
 pub mod Folding

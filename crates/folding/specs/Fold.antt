@@ -37,8 +37,8 @@ abbrev pub joinAll : List Label → List Label
 joinAll [] = []
 joinAll (l ∷ g) = joinFrom l g
 
-abbrev pub counts : Label → Bool
-counts l = not (eqb (l .extent) 1)
+abbrev pub notOne : Label → Bool
+notOne l = not (eqb (l .extent) 1)
 
 abbrev pub fold : List Label → List Label
-fold g = joinAll (keep counts g)
+fold g = joinAll (keep notOne g)

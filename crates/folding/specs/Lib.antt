@@ -1,2 +1,3 @@
-pub mod Added
 pub mod Fold
+pub mod FoldCases
+pub mod FoldedWith

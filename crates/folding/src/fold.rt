@@ -6,7 +6,7 @@ ghost use Rattle.limits.specs.Limits.{axesLimit};
 ghost use Rattle.groups.specs.Held.{asLabel, labelsIn};
 ghost use Rattle.groups.specs.Foldable.{Small, Foldable};
 ghost use Rattle.folding.specs.Fold.{eqℤ, joins, join, fold};
-ghost use Rattle.folding.specs.Added.{addTo};
+ghost use Rattle.folding.specs.FoldedWith.{addTo};
 use groups::groups::Dim;
 use groups::groups::Group;
 

@@ -1,2 +1,3 @@
+pub mod GoCases
+pub mod GoParts
 pub mod Record
-pub mod Parts

@@ -1,9 +1,9 @@
 ghost use mathlib.Core.Path.{_≡_};
 ghost use Prim.Native.Nat.{_+_, _≤_};
 ghost use lib.ListN.{length};
-ghost use Rattle.records.specs.Parts.{ReadAs};
+ghost use Rattle.records.specs.RecordParts.{ReadAs};
 ghost use Rattle.go.specs.Record.{goAt, goRecord};
-ghost use Rattle.go.specs.Parts.{goPart, goIn, GoHeld};
+ghost use Rattle.go.specs.GoParts.{goPart, goIn, GoHeld};
 use little_endian::numbers::Cursor;
 use little_endian::numbers::four_bytes;
 use little_endian::numbers::two_bytes;

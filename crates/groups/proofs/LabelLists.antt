@@ -13,7 +13,7 @@ use Rattle.labels.specs.Labels.{strideOf, extentOf}
 use Rattle.labels.proofs.Facts.{signed-stride}
 use Rattle.contraction.specs.declared.operands.Operands.{Operands}
 use Rattle.contraction.specs.Operands.{Operand, A, B, D, three, together}
-use Rattle.contraction.specs.Lists.{axesIn, shapeOf, Gathered}
+use Rattle.contraction.specs.TensorAxes.{axesIn, shapeOf, Gathered}
 use Rattle.groups.specs.declared.groups.Dim.{Dim}
 use Rattle.groups.specs.declared.groups.Group.{Group}
 use Rattle.groups.specs.Groups.{label}

@@ -1,2 +1,3 @@
+pub mod GroupCases
 pub mod LabelLists
 pub mod Sets

@@ -13,15 +13,15 @@ use Rattle.layout.specs.declared.layout.Axis.{Axis}
 use Rattle.layout.specs.Layout.{lettersOf}
 use Rattle.layout.specs.Listed.{listed}
 use Rattle.validity.specs.Letters.{isLetter}
-use Rattle.validity.specs.Questions.{lettersValid}
-use Rattle.labels.specs.declared.letters.Letters.{Letters}
+use Rattle.validity.specs.TensorQuestions.{lettersValid}
+use Rattle.labels.specs.declared.letter_sets.Letters.{Letters}
 use Rattle.labels.specs.Labels.{labels}
 use Rattle.labels.specs.LetterSets.{has, Spells}
 use Rattle.contraction.specs.declared.operands.Operands.{Operands}
 use Rattle.contraction.specs.Operands.{Operand, A, B, D, together}
-use Rattle.contraction.specs.Lists.{shapeOf, Gathered}
+use Rattle.contraction.specs.TensorAxes.{shapeOf, Gathered}
 use Rattle.groups.specs.declared.groups.Sets.{Sets}
-use Rattle.groups.specs.Groups.{Group, batch, row, column, depth, groupBy, groupOf, number, inGroup, group, outputs, label, letters}
+use Rattle.groups.specs.Groups.{Group, batch, row, column, depth, groupBy, groupOf, groupNumber, inGroup, group, outputs, label, letters}
 use Rattle.groups.specs.Sets.{Split}
 
 -- ---- the four sets
@@ -53,7 +53,7 @@ of-each P b r c d column = c
 of-each P b r c d depth = d
 
 -- a letter that one of the three has is in the set of its group and in no other
-set-group : (a b d : Bool) → (d || (a || b)) ≡ true → (g : Group) → inSet g a b d ≡ eqb (number (groupBy a b d)) (number g)
+set-group : (a b d : Bool) → (d || (a || b)) ≡ true → (g : Group) → inSet g a b d ≡ eqb (groupNumber (groupBy a b d)) (groupNumber g)
 set-group true true true h = of-each _ refl refl refl refl
 set-group true true false h = of-each _ refl refl refl refl
 set-group true false true h = of-each _ refl refl refl refl
@@ -106,7 +106,7 @@ module _ (x : Operands) (h : Gathered x) where
     in-set = all-imp each (labels (together (shapeOf x))) (all-both _ _ (labels (together (shapeOf x))) valid somewhere)
       where
         each : (c : ℕ) → (isLetter c ≡ true) × ((member c (letters (shapeOf x) D) || (member c (letters (shapeOf x) A) || member c (letters (shapeOf x) B))) ≡ true)
-            → has (setsIn r g) c ≡ eqb (number (groupBy (member c (letters (shapeOf x) A)) (member c (letters (shapeOf x) B)) (member c (letters (shapeOf x) D)))) (number g)
+            → has (setsIn r g) c ≡ eqb (groupNumber (groupBy (member c (letters (shapeOf x) A)) (member c (letters (shapeOf x) B)) (member c (letters (shapeOf x) D)))) (groupNumber g)
         each c v =
             rw (split-set (ls A .set) (ls B .set) (ls D .set) r s g c, has-letter A (ls A) (spelt A) c (v .0), has-letter B (ls B) (spelt B) c (v .0), has-letter D (ls D) (spelt D) c (v .0))
             (set-group (member c (letters (shapeOf x) A)) (member c (letters (shapeOf x) B)) (member c (letters (shapeOf x) D)) (v .1) g)

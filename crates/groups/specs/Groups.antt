@@ -37,14 +37,14 @@ groupBy a false true = row
 unfoldable pub groupOf : Shape → ℕ → Group
 groupOf s c = groupBy (member c (letters s A)) (member c (letters s B)) (member c (letters s D))
 
-abbrev pub number : Group → ℕ
-number batch = 0
-number row = 1
-number column = 2
-number depth = 3
+abbrev pub groupNumber : Group → ℕ
+groupNumber batch = 0
+groupNumber row = 1
+groupNumber column = 2
+groupNumber depth = 3
 
 unfoldable pub inGroup : Shape → Group → ℕ → Bool
-inGroup s g c = eqb (number (groupOf s c)) (number g)
+inGroup s g c = eqb (groupNumber (groupOf s c)) (groupNumber g)
 
 -- the labels whose letters pass a test, in order of first appearance in D's labels, then A's, then B's
 abbrev pub labelsWhere : Shape → (ℕ → Bool) → List Label

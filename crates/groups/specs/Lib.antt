@@ -1,4 +1,5 @@
 pub mod Foldable
+pub mod GroupCases
 pub mod Groups
 pub mod Held
 pub mod Sets

@@ -5,7 +5,7 @@ ghost use lib.ListN.{drop};
 ghost use Rattle.words.specs.Lists.{keep};
 ghost use Rattle.limits.specs.Limits.{axesLimit};
 ghost use Rattle.labels.specs.LetterSets.{has, spelled};
-ghost use Rattle.contraction.specs.Lists.{shapeOf, Gathered};
+ghost use Rattle.contraction.specs.TensorAxes.{shapeOf, Gathered};
 ghost use Rattle.groups.specs.Groups.{label, outputs, size};
 ghost use Rattle.groups.specs.Held.{asLabel, labelsIn};
 ghost use Rattle.groups.specs.Foldable.{Foldable};
@@ -13,9 +13,9 @@ ghost use Rattle.groups.specs.Sets.{Split, Grouped};
 use contraction::operands::Operands;
 use labels::labels::extent_of;
 use labels::labels::stride_of;
-use labels::letters::Letters;
-use labels::letters::has_letter;
-use labels::letters::letters_of;
+use labels::letter_sets::Letters;
+use labels::letter_sets::has_letter;
+use labels::letter_sets::letters_of;
 use limits::limits::Limits;
 
 // A label, or several that were joined, with its extent and its stride in each tensor as an address word.

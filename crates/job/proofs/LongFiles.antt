@@ -15,7 +15,7 @@ use Rattle.words.proofs.Tabulate.{tabulate-ext}
 use Rattle.limits.specs.Limits.{rankLimit, jobLimit, fileRoom}
 use Rattle.little_endian.specs.Bytes.{has, little, numbers}
 use Rattle.marks.specs.Marks.{letterA, letterB, letterD, kindOf, isLayout, wordWidth, isGo}
-use Rattle.records.specs.Records.{Reading, got, refused, check, then, Tensor, kindAt, layoutAt, layoutRecord, wordsRecord, wordsAfter, tensorRecords}
+use Rattle.records.specs.Records.{Reading, got, fileRefused, check, then, Tensor, kindAt, layoutAt, layoutRecord, wordsRecord, wordsAfter, tensorRecords}
 use Rattle.records.proofs.Reading.{wide-of, few-bytes}
 use Rattle.go.specs.Record.{goAt, goRecord}
 use Rattle.jobfile.specs.Format.{fromGo, fromD, fromB, readJob}
@@ -42,13 +42,13 @@ jobRoom = 3 * tensorRoom + goRoom
 -- where something is got, the next record begins by `bound`
 abbrev Ends : {X : Type 0} → ℕ → Reading X → Type 0
 Ends bound (got value next) = next ≤ bound
-Ends bound (refused number) = Unit {0}
+Ends bound (fileRefused number) = Unit {0}
 
 record Alike {X : Type 0} (bound : ℕ) (x y : Reading X) : Type 0 where
   same : x ≡ y
   ends : Ends bound x
 
-alike-refused : {X : Type 0} {m : ℕ} (number : ℕ) → Alike {X = X} m (refused number) (refused number)
+alike-refused : {X : Type 0} {m : ℕ} (number : ℕ) → Alike {X = X} m (fileRefused number) (fileRefused number)
 alike-refused number = record { same = refl; ends = tt }
 
 module _ {X : Type 0} {m : ℕ} where
@@ -65,7 +65,7 @@ module _ {X : Type 0} {m : ℕ} where
     where
       go : (z : Reading X) → Ends m z → Alike n (then z p) (then z q)
       go (got v next) h = k v next h
-      go (refused number) h = alike-refused number
+      go (fileRefused number) h = alike-refused number
 
 -- ---- two files with the same front, of L bytes
 

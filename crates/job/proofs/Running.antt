@@ -10,12 +10,12 @@ use Rattle.io.specs.Counts.{Counts}
 use Rattle.contraction.specs.declared.contraction.Contraction.{Contraction}
 use Rattle.contraction.specs.Operands.{three}
 use Rattle.little_endian.specs.declared.numbers.Cursor.{Cursor}
-use Rattle.records.specs.Parts.{mapReading, wordsOf}
+use Rattle.records.specs.RecordParts.{mapReading, wordsOf}
 use Rattle.jobfile.specs.declared.reader.JobParts.{JobParts}
 use Rattle.jobfile.specs.declared.reader.JobRead.{JobRead}
 use Rattle.jobfile.specs.Format.{readJob}
-use Rattle.jobfile.specs.Parts.{jobParts, jobIn}
-use Rattle.decode.specs.Values.{contractionIn}
+use Rattle.jobfile.specs.JobParts.{jobParts, jobIn}
+use Rattle.decode.specs.JobValues.{contractionIn}
 use Rattle.report.specs.Text.{refusedText}
 use Rattle.report.specs.Written.{Begins}
 use Rattle.report.proofs.Written.{written-room, put-as}

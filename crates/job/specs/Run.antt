@@ -4,10 +4,10 @@ use Prim.Native.Nat.{ℕ}
 use mathlib.Core.List.{List}
 use Rattle.words.specs.Lists.{tabulate}
 use Rattle.limits.specs.Limits.{workRoom}
-use Rattle.tiled.specs.Call.{tileCall}
+use Rattle.tiled.specs.TileCall.{tileCall}
 use Rattle.records.specs.Records.{Reading}
 use Rattle.jobfile.specs.Format.{Job, readJob}
-use Rattle.decode.specs.Values.{contractionIn, slicesIn}
+use Rattle.decode.specs.JobValues.{contractionIn, slicesIn}
 use Rattle.report.specs.Text.{refusedText}
 use Rattle.job_call.specs.Answer.{callText}
 
@@ -19,7 +19,7 @@ runText j =
 
 -- the text of a file that is refused while it is read, or of the call that it asks for
 unfoldable pub readingText : Reading Job → List ℕ
-readingText (Reading.refused number) = refusedText number
+readingText (Reading.fileRefused number) = refusedText number
 readingText (Reading.got j end) = runText j
 
 -- the text that answers a file

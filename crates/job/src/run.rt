@@ -3,7 +3,7 @@ ghost use Prim.Native.Nat.{_≤_};
 ghost use lib.ListN.{length};
 ghost use Rattle.io.specs.Counts.{Counts};
 ghost use Rattle.limits.specs.Limits.{textRoom};
-ghost use Rattle.jobfile.specs.Parts.{jobIn, JobHeld};
+ghost use Rattle.jobfile.specs.JobParts.{jobIn, JobHeld};
 ghost use Rattle.report.specs.Written.{written, Begins};
 ghost use Rattle.job.specs.Run.{runText, jobText};
 use decode::decode::contraction_in;
@@ -41,7 +41,8 @@ fn put_job(file: &[u8], job: JobParts, out: &mut [u8]) -> usize
 
 // The text that answers a job file, at the start of `out`; how long it is.
 pub fn run(file: &[u8], out: &mut [u8; Limits::TEXT]) -> usize
-    ensures { λ r. ⌜ (r ≡ length (jobText (now (file .entry)))) × (now (out .exit) ≡ written (now (out .entry)) 0 (jobText (now (file .entry)))) ⌝ }
+    ensures { λ r. ⌜ (r ≡ length (jobText (now (file .entry))))
+        × (now (out .exit) ≡ written (now (out .entry)) 0 (jobText (now (file .entry)))) ⌝ }
     ensures { λ r. ⌜ Counts r (now (out .exit)) ⌝ }
 {
     let read = read_job(file);

@@ -12,11 +12,11 @@ use Rattle.contraction.specs.declared.contraction.Contraction.{Contraction}
 use Rattle.contraction.specs.Operands.{three}
 use Rattle.tiles.specs.declared.grid.Sizes.{Sizes}
 use Rattle.tiles.specs.Cut.{total}
-use Rattle.tile_blocks.specs.Setting.{cutOf}
+use Rattle.tile_blocks.specs.ContractionInTiles.{cutOf}
 use Rattle.tiled.specs.declared.call.Outcome.{Outcome}
-use Rattle.tiled.specs.Call.{TileAnswer, tileAnswer, gave, tileCall}
-use Rattle.states.specs.Letters.{letters}
-use Rattle.states.specs.Placed.{Accepted}
+use Rattle.tiled.specs.TileCall.{TileAnswer, tileAnswer, tileCallOf, tileCall}
+use Rattle.states.specs.StateLetters.{stateLetters}
+use Rattle.tile_questions.specs.TileQuestions.{Accepted}
 use Rattle.states.proofs.Lettering.{letters-same, accepted-same, ran-accepted}
 use Rattle.report.specs.Text.{refusedText, reportText}
 use Rattle.job_call.specs.Answer.{answerText, callText}
@@ -40,18 +40,18 @@ zeros (suc n) = ap (λ (l : List ℕ). 0 ∷ l) (zeros n)
 
 -- the text of what a tile call answered, o, with D's words after it, d′
 module _ (c : Contraction) (z : Sizes) (a b d : List ℕ) (done budget : ℕ) where
-  answer-text : (n : ℕ) {x : TileAnswer} {d′ work′ : List ℕ} → gave x d′ work′ ≡ tileCall c z (three a b d) (replicate n 0) done budget
+  answer-text : (n : ℕ) {x : TileAnswer} {d′ work′ : List ℕ} → tileCallOf x d′ work′ ≡ tileCall c z (three a b d) (replicate n 0) done budget
       → answerText c z (three a b d) x d′ ≡ callText c z (three a b d) (tileCall c z (three a b d) (tabulate n (λ k. 0)) done budget)
   unfolding callText
   answer-text n gives = rw (← zeros n, ← gives)
 
-  module _ {o : Outcome} {d′ work′ : List ℕ} (gives : gave (tileAnswer o) d′ work′ ≡ tileCall c z (three a b d) (replicate workRoom 0) done budget) where
+  module _ {o : Outcome} {d′ work′ : List ℕ} (gives : tileCallOf (tileAnswer o) d′ work′ ≡ tileCall c z (three a b d) (replicate workRoom 0) done budget) where
     -- it ran: the letters are asked of D's words after it, which are as many as before
     module _ {t : ℕ} {full : Bool} (is : o ≡ Outcome.Ran t full) (kept : length d′ ≡ length d) where
       pub ran-asks : Accepted c z (three a b d′)
       ran-asks = accepted-same c z a b d d′ (sym kept) (ran-accepted c z (three a b d) (replicate workRoom 0) done budget (rw is at gives))
 
-      pub ran-text : reportText t (total (cutOf c z)) d′ (letters c z (three a b d′) t) ≡ tileText c z (three a b d) done budget
+      pub ran-text : reportText t (total (cutOf c z)) d′ (stateLetters c z (three a b d′) t) ≡ tileText c z (three a b d) done budget
       unfolding answerText tileText
       ran-text = rw (letters-same c z a b d′ d t kept) (answer-text workRoom (rw is at gives))
 

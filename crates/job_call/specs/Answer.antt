@@ -6,15 +6,15 @@ use Rattle.contraction.specs.declared.contraction.Contraction.{Contraction}
 use Rattle.meaning.specs.Meaning.{Slices}
 use Rattle.tiles.specs.declared.grid.Sizes.{Sizes}
 use Rattle.tiles.specs.Cut.{total}
-use Rattle.tile_blocks.specs.Setting.{cutOf}
-use Rattle.tiled.specs.Call.{TileCall, TileAnswer, ran, refused}
-use Rattle.states.specs.Letters.{letters}
+use Rattle.tile_blocks.specs.ContractionInTiles.{cutOf}
+use Rattle.tiled.specs.TileCall.{TileCall, TileAnswer, ran, tileRefused}
+use Rattle.states.specs.StateLetters.{stateLetters}
 use Rattle.report.specs.Text.{refusedText, reportText}
 
 -- the text of what a call answered, with D's words after it
 unfoldable pub answerText : Contraction → Sizes → Slices → TileAnswer → List ℕ → List ℕ
-answerText c z w (ran t complete) words = reportText t (total (cutOf c z)) words (letters c z w t)
-answerText c z w (refused number t) words = refusedText number
+answerText c z w (ran t complete) words = reportText t (total (cutOf c z)) words (stateLetters c z w t)
+answerText c z w (tileRefused number t) words = refusedText number
 
 -- the text of a call
 unfoldable pub callText : Contraction → Sizes → Slices → TileCall → List ℕ

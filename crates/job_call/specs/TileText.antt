@@ -7,7 +7,7 @@ use Rattle.limits.specs.Limits.{workRoom}
 use Rattle.contraction.specs.declared.contraction.Contraction.{Contraction}
 use Rattle.meaning.specs.Meaning.{Slices}
 use Rattle.tiles.specs.declared.grid.Sizes.{Sizes}
-use Rattle.tiled.specs.Call.{tileCall}
+use Rattle.tiled.specs.TileCall.{tileCall}
 use Rattle.job_call.specs.Answer.{callText}
 
 -- the text of a tile call with a work slice of zeros

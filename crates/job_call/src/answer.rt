@@ -3,9 +3,9 @@ ghost use lib.ListN.{length};
 ghost use Rattle.limits.specs.Limits.{jobLimit, textRoom};
 ghost use Rattle.contraction.specs.Operands.{three};
 ghost use Rattle.tiles.specs.Cut.{total};
-ghost use Rattle.tile_blocks.specs.Setting.{cutOf};
-ghost use Rattle.states.specs.Letters.{letters};
-ghost use Rattle.states.specs.Placed.{Accepted};
+ghost use Rattle.tile_blocks.specs.ContractionInTiles.{cutOf};
+ghost use Rattle.states.specs.StateLetters.{stateLetters};
+ghost use Rattle.tile_questions.specs.TileQuestions.{Accepted};
 ghost use Rattle.report.specs.Text.{reportText};
 ghost use Rattle.report.specs.Written.{Begins};
 ghost use Rattle.job_call.specs.TileText.{tileText};
@@ -30,7 +30,7 @@ fn put_ran(
 ) -> usize
     requires { ⌜ Accepted c z (three (now a) (now b) (now d)) × (length (now d) ≤ jobLimit) × (textRoom ≤ length (now out)) ⌝ }
     ensures { λ r. ⌜ Begins (now (out .entry))
-        (reportText t (total (cutOf c z)) (now (d .entry)) (letters c z (three (now (a .entry)) (now (b .entry)) (now (d .entry))) t))
+        (reportText t (total (cutOf c z)) (now (d .entry)) (stateLetters c z (three (now (a .entry)) (now (b .entry)) (now (d .entry))) t))
         r (now (out .exit)) ⌝ }
 {
     let n = d.len();

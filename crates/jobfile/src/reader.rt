@@ -1,8 +1,8 @@
 ghost use Prim.Native.Nat.{_≤_};
 ghost use lib.ListN.{length};
-ghost use Rattle.records.specs.Parts.{tensorIn, TensorHeld, ReadAs};
+ghost use Rattle.records.specs.RecordParts.{tensorIn, TensorHeld, ReadAs};
 ghost use Rattle.jobfile.specs.Format.{fromGo, fromD, fromB, readJob};
-ghost use Rattle.jobfile.specs.Parts.{jobParts, jobIn, JobHeld};
+ghost use Rattle.jobfile.specs.JobParts.{jobParts, jobIn, JobHeld};
 use go::go::Go;
 use go::go::GoRead;
 use go::go::go_record;
@@ -28,7 +28,9 @@ pub enum JobRead {
 // `GO`, and after it the end.
 fn from_go(file: &[u8], a: TensorParts, b: TensorParts, d: TensorParts, from: Cursor) -> JobRead
     requires { ⌜ TensorHeld (now file) a × TensorHeld (now file) b × TensorHeld (now file) d × (from .at ≤ length (now file)) ⌝ }
-    ensures { λ r. ⌜ ReadAs jobIn JobHeld (now (file .entry)) (jobParts r) (fromGo (now (file .entry)) (tensorIn (now (file .entry)) a) (tensorIn (now (file .entry)) b) (tensorIn (now (file .entry)) d) (from .at)) ⌝ }
+    ensures { λ r. ⌜ ReadAs jobIn JobHeld (now (file .entry)) (jobParts r)
+        (fromGo (now (file .entry)) (tensorIn (now (file .entry)) a) (tensorIn (now (file .entry)) b)
+        (tensorIn (now (file .entry)) d) (from .at)) ⌝ }
 {
     let read = go_record(file, from);
     match read {
@@ -49,7 +51,8 @@ fn from_go(file: &[u8], a: TensorParts, b: TensorParts, d: TensorParts, from: Cu
 // D's records, and what follows.
 fn from_d(file: &[u8], a: TensorParts, b: TensorParts, from: Cursor) -> JobRead
     requires { ⌜ TensorHeld (now file) a × TensorHeld (now file) b × (from .at ≤ length (now file)) ⌝ }
-    ensures { λ r. ⌜ ReadAs jobIn JobHeld (now (file .entry)) (jobParts r) (fromD (now (file .entry)) (tensorIn (now (file .entry)) a) (tensorIn (now (file .entry)) b) (from .at)) ⌝ }
+    ensures { λ r. ⌜ ReadAs jobIn JobHeld (now (file .entry)) (jobParts r)
+        (fromD (now (file .entry)) (tensorIn (now (file .entry)) a) (tensorIn (now (file .entry)) b) (from .at)) ⌝ }
 {
     let read = tensor_records(file, from, b'D');
     match read {
@@ -61,7 +64,8 @@ fn from_d(file: &[u8], a: TensorParts, b: TensorParts, from: Cursor) -> JobRead
 // B's records, and what follows.
 fn from_b(file: &[u8], a: TensorParts, from: Cursor) -> JobRead
     requires { ⌜ TensorHeld (now file) a × (from .at ≤ length (now file)) ⌝ }
-    ensures { λ r. ⌜ ReadAs jobIn JobHeld (now (file .entry)) (jobParts r) (fromB (now (file .entry)) (tensorIn (now (file .entry)) a) (from .at)) ⌝ }
+    ensures { λ r. ⌜ ReadAs jobIn JobHeld (now (file .entry)) (jobParts r)
+        (fromB (now (file .entry)) (tensorIn (now (file .entry)) a) (from .at)) ⌝ }
 {
     let read = tensor_records(file, from, b'B');
     match read {

@@ -1,2 +1,2 @@
 pub mod Kernel
-pub mod Needs
+pub mod KernelNeeds

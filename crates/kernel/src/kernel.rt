@@ -5,7 +5,7 @@ ghost use Rattle.words.specs.Words.{word};
 ghost use Rattle.words.specs.Loops.{Within};
 ghost use Rattle.limits.specs.Limits.{blockLimit};
 ghost use Rattle.kernel.specs.Kernel.{laneAdded, columnSum, ColumnSums};
-ghost use Rattle.kernel.specs.Needs.{Summable};
+ghost use Rattle.kernel.specs.KernelNeeds.{Summable};
 use limits::limits::Limits;
 
 // A product of two words added to one of the sums.

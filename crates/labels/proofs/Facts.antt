@@ -17,7 +17,7 @@ use Rattle.layout.specs.declared.layout.Axis.{Axis}
 use Rattle.layout.specs.declared.axes.Axes.{Axes}
 use Rattle.layout.specs.Listed.{listed}
 use Rattle.layout.proofs.Listed.{length-listed}
-use Rattle.validity.specs.Questions.{extentsValid, stridesValid}
+use Rattle.validity.specs.TensorQuestions.{extentsValid, stridesValid}
 use Rattle.labels.specs.Labels.{strideOf, extentOf}
 
 pub extents-bound : (xs : List Axis) → T (extentsValid xs) → (c : ℕ) → (1 ≤ extentOf c xs) × (extentOf c xs ≤ extentLimit)

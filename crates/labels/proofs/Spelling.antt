@@ -19,8 +19,8 @@ use Rattle.layout.specs.declared.axes.Axes.{Axes}
 use Rattle.layout.specs.Layout.{noAxis, lettersOf}
 use Rattle.layout.specs.Listed.{listed}
 use Rattle.validity.specs.Letters.{isLetter}
-use Rattle.validity.specs.Questions.{lettersValid}
-use Rattle.labels.specs.declared.letters.Letters.{Letters}
+use Rattle.validity.specs.TensorQuestions.{lettersValid}
+use Rattle.labels.specs.declared.letter_sets.Letters.{Letters}
 use Rattle.labels.specs.Labels.{labels}
 use Rattle.labels.specs.LetterSets.{spelled, Spells, added}
 

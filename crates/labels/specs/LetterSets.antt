@@ -9,7 +9,7 @@ use lib.Dec.{eqb}
 use Rattle.words.specs.Lists.{firstOf, member}
 use Rattle.limits.specs.Limits.{axesLimit}
 use Rattle.validity.specs.Letters.{isLetter}
-use Rattle.labels.specs.declared.letters.Letters.{Letters}
+use Rattle.labels.specs.declared.letter_sets.Letters.{Letters}
 
 -- the bit of 2 ^ k in a word
 abbrev pub bit : ℕ → ℕ → ℕ

@@ -1,3 +1,3 @@
 // The labels of axes: their letters as sets, their extents and their strides.
 pub mod labels;
-pub mod letters;
+pub mod letter_sets;

@@ -9,7 +9,7 @@ use native.Mathlib.Omega.{arith}
 use lib.IntN.{ℤ, pos, negsuc, _*ℤ_}
 use Rattle.words.specs.Sums.{All}
 use Rattle.words.specs.Words.{up, down}
-use Rattle.words.proofs.Sums.{total-ext, total-zero}
+use Rattle.words.proofs.Sums.{sumOf-ext, sumOf-zero}
 use Rattle.words.proofs.Whole.{add-parts, up-mul, down-mul}
 use Rattle.layout.specs.declared.layout.Axis.{Axis}
 use Rattle.layout.specs.declared.layout.Layout.{Layout}
@@ -33,7 +33,7 @@ signed-address l ρ h = from-parts _ _ _ (omega (arith, shift-parts (axes l) ρ,
 -- ---- by the index
 
 pub along-zero : (part : ℤ → ℕ) (xs : List Axis) → along part xs (λ c. 0) ≡ 0
-along-zero part xs = total-ext (λ a. zero-mul (part (a .stride))) xs ∙ total-zero xs
+along-zero part xs = sumOf-ext (λ a. zero-mul (part (a .stride))) xs ∙ sumOf-zero xs
 
 pub along-agree : (part : ℤ → ℕ) (xs : List Axis) (ρ σ : ℕ → ℕ) → All (λ a. ρ (a .letter) ≡ σ (a .letter)) xs → along part xs ρ ≡ along part xs σ
 along-agree part [] ρ σ h = refl

@@ -4,7 +4,7 @@ use Prim.Native.Nat.{ℕ, _+_, _*_, _-_}
 use mathlib.Core.List.{List, [], _∷_, map}
 use lib.ListN.{getD, length}
 use lib.IntN.{ℤ, pos, _+ℤ_, _*ℤ_}
-use Rattle.words.specs.Sums.{total}
+use Rattle.words.specs.Sums.{sumOf}
 use Rattle.words.specs.Lists.{tabulate, firstOf}
 use Rattle.words.specs.Words.{up, down}
 use Rattle.limits.specs.Limits.{rankLimit}
@@ -39,7 +39,7 @@ lettersOf xs = map (λ a. a .letter) xs
 
 -- Σ over the axes of the index of its letter × a part of its stride
 abbrev pub along : (ℤ → ℕ) → List Axis → (ℕ → ℕ) → ℕ
-along part xs ρ = total (λ a. ρ (a .letter) * part (a .stride)) xs
+along part xs ρ = sumOf (λ a. ρ (a .letter) * part (a .stride)) xs
 
 -- the address of the entry at the index ρ, which gives each letter its value: base + Σ index × stride
 unfoldable pub address : Layout → (ℕ → ℕ) → ℕ

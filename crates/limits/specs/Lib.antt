@@ -1,1 +1,2 @@
+pub mod LimitCases
 pub mod Limits

@@ -11,15 +11,15 @@ use Rattle.words.specs.Sums.{All}
 use Rattle.words.specs.Lists.{keep, member}
 use Rattle.words.proofs.Lists.{all-imp, all-map, all-unmap, all-both, all-member, distinct-members, member-keep, eqb-true, eqb-self, eqb-flip}
 use Rattle.labels.specs.Labels.{extentOf, labels}
-use Rattle.points.specs.Questions.{extentsAgree}
+use Rattle.points.specs.LabelQuestions.{extentsAgree}
 use Rattle.entries.specs.Bounds.{InRange}
 use Rattle.entries.proofs.ByLabel.{labels-cover}
 use Rattle.contraction.specs.Operands.{Operand, Shape, together}
-use Rattle.groups.specs.Groups.{Label, label, letters, Group, groupOf, number, inGroup, labelsWhere, group, size}
+use Rattle.groups.specs.Groups.{Label, label, letters, Group, groupOf, groupNumber, inGroup, labelsWhere, group, size}
 use Rattle.offsets.proofs.Digits.{pos-left, pos-right, div-below}
 use Rattle.meaning.specs.Index.{at}
-use Rattle.meaning.proofs.Address.{Distinct}
-use Rattle.meaning.proofs.Agree.{together-all, agree}
+use Rattle.meaning.proofs.CountAddress.{Distinct}
+use Rattle.meaning.proofs.ExtentsAgree.{together-all, agree}
 
 -- different counts have different indices
 pub at-injective : (g : List Label) (m n : ℕ) (ρ σ : ℕ → ℕ) → Distinct g → m < size g → n < size g
@@ -74,7 +74,7 @@ module _ (s : Shape) where
   pub group-same : (g : Group) (n : ℕ) (ρ σ : ℕ → ℕ) (c : ℕ) → member c (labels (together s)) ≡ true → groupOf s c ≡ g → at (group s g) n ρ c ≡ at (group s g) n σ c
   unfolding group inGroup
   group-same g n ρ σ c m e =
-      at-same (keep (inGroup s g) (labels (together s))) n ρ σ c (member-keep (inGroup s g) c (labels (together s)) (rw (e, eqb-self (number g))) m)
+      at-same (keep (inGroup s g) (labels (together s))) n ρ σ c (member-keep (inGroup s g) c (labels (together s)) (rw (e, eqb-self (groupNumber g))) m)
 
   module _ (same : T (extentsAgree (together s))) where
     pub in-range : (o : Operand) (ρ : ℕ → ℕ) → ((c : ℕ) → member c (letters s o) ≡ true → ρ c < label s c .extent) → InRange (s o) ρ

@@ -13,14 +13,14 @@ use Rattle.layout.specs.Layout.{axes, address}
 use Rattle.layout.proofs.Address.{address-agree}
 use Rattle.labels.specs.Labels.{labels}
 use Rattle.contraction.specs.Operands.{Operand, A, B, D, Shape, shape, together}
-use Rattle.groups.specs.Groups.{letters, Group, batch, row, column, depth, groupBy, groupOf, number, group}
+use Rattle.groups.specs.Groups.{letters, Group, batch, row, column, depth, groupBy, groupOf, groupNumber, group}
 use Rattle.meaning.specs.Index.{at, index}
-use Rattle.meaning.proofs.Address.{clear}
+use Rattle.meaning.proofs.CountAddress.{clear}
 use Rattle.meaning.proofs.Index.{letter-in, group-same}
 
 -- the tensor has no label of the group
 pub record Lacks (s : Shape) (o : Operand) (g : Group) : Type 0 where
-  pub each : (c : ℕ) → member c (letters s o) ≡ true → number (groupOf s c) ≢ number g
+  pub each : (c : ℕ) → member c (letters s o) ≡ true → groupNumber (groupOf s c) ≢ groupNumber g
 
 -- A has no column label, B no row label and D no depth label
 abbrev pub lacking : Operand → Group
@@ -34,7 +34,7 @@ groupWith A b d = groupBy true b d
 groupWith B a d = groupBy a true d
 groupWith D a b = groupBy a b true
 
-other-group : (o : Operand) (x y : Bool) → number (groupWith o x y) ≢ number (lacking o)
+other-group : (o : Operand) (x y : Bool) → groupNumber (groupWith o x y) ≢ groupNumber (lacking o)
 other-group A x false = omega arith
 other-group A true true = omega arith
 other-group A false true = omega arith
@@ -62,7 +62,7 @@ module _ (s : Shape) where
       clear s depth (n depth) _ c (rw e (omega arith)) ∙ clear s batch (n batch) _ c (rw e (omega arith)) ∙ clear s row (n row) _ c (rw e (omega arith))
 
 -- counts that differ only in a group that the tensor lacks
-pub address-lacks : (t : Operand → Layout) (o : Operand) (g : Group) → Lacks (shape t) o g → (n m : Group → ℕ) → ((h : Group) → number h ≢ number g → n h ≡ m h)
+pub address-lacks : (t : Operand → Layout) (o : Operand) (g : Group) → Lacks (shape t) o g → (n m : Group → ℕ) → ((h : Group) → groupNumber h ≢ groupNumber g → n h ≡ m h)
     → address (t o) (index (shape t) n) ≡ address (t o) (index (shape t) m)
 address-lacks t o g l n m same = address-agree (t o) _ _ (all-imp (λ a. agrees (a .letter)) (axes (t o)) (covers (λ a. a .letter) (axes (t o))))
   where

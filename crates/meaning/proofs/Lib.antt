@@ -1,11 +1,12 @@
-pub mod Address
-pub mod Agree
-pub mod Counts
+pub mod CountAddress
+pub mod Demand2
+pub mod EngineIndices
+pub mod ExtentsAgree
 pub mod Index
+pub mod IndexParts
 pub mod Lacks
 pub mod Nested
 pub mod Onto
 pub mod Outputs
-pub mod Parts
 pub mod Result
 pub mod Values

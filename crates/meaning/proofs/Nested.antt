@@ -12,7 +12,7 @@ use Rattle.words.proofs.Sums.{sumTo-ext, sumTo-mul, sumTo-swap}
 use Rattle.groups.specs.Groups.{Label, size}
 use Rattle.offsets.proofs.Digits.{lowest, rest}
 use Rattle.meaning.specs.Index.{assign, at, sumOver}
-use Rattle.meaning.proofs.Address.{Fresh, Distinct}
+use Rattle.meaning.proofs.CountAddress.{Fresh, Distinct}
 
 at-cons : (l : Label) (g : List Label) (ρ : ℕ → ℕ) (m v : ℕ) → v < l .extent → at (l ∷ g) (l .extent * m + v) ρ ≡ assign (at g m ρ) (l .letter) v
 at-cons l g ρ m v h = rw (lowest (l .extent) m h, rest (l .extent) m h)

@@ -15,18 +15,18 @@ use Rattle.layout.specs.declared.layout.Layout.{Layout}
 use Rattle.layout.specs.Layout.{axes, address}
 use Rattle.layout.proofs.Address.{address-agree}
 use Rattle.labels.specs.Labels.{extentOf, labels}
-use Rattle.points.specs.Questions.{extentsAgree}
+use Rattle.points.specs.LabelQuestions.{extentsAgree}
 use Rattle.entries.specs.Bounds.{InRange}
 use Rattle.contraction.specs.Operands.{Operand, D, Shape, shape, together}
 use Rattle.groups.specs.Groups.{Label, label, letters, labelsWhere, outputs, size}
 use Rattle.offsets.proofs.Digits.{lowest, rest}
 use Rattle.meaning.specs.Index.{at, outIndex}
-use Rattle.meaning.proofs.Address.{Distinct, where-distinct, where-all, where-clear}
-use Rattle.meaning.proofs.Agree.{agree}
+use Rattle.meaning.proofs.CountAddress.{Distinct, where-distinct, where-all, where-clear}
+use Rattle.meaning.proofs.ExtentsAgree.{agree}
 use Rattle.meaning.proofs.Index.{letter-in, where-at}
-use Rattle.meaning.proofs.Parts.{Below, covered, partsAt, Splits, atParts}
+use Rattle.meaning.proofs.IndexParts.{Below, covered, partsAt, Splits, atParts}
 use Rattle.meaning.proofs.Outputs.{inD}
-use Rattle.meaning.proofs.Counts.{out-labels}
+use Rattle.meaning.proofs.EngineIndices.{out-labels}
 
 -- the index gives each label of the list a value below its extent
 abbrev pub Within : List Label → (ℕ → ℕ) → Type 0

@@ -7,7 +7,7 @@ use Prim.Native.Nat.{ℕ}
 use native.Mathlib.Omega.{arith}
 use Rattle.words.specs.Lists.{member}
 use Rattle.contraction.specs.Operands.{A, B, D, Shape}
-use Rattle.groups.specs.Groups.{letters, depth, groupBy, groupOf, number}
+use Rattle.groups.specs.Groups.{letters, depth, groupBy, groupOf, groupNumber}
 
 module _ (s : Shape) where
   -- is it a letter of D?
@@ -15,11 +15,11 @@ module _ (s : Shape) where
   inD c = member c (letters s D)
 
   -- D's letters are of the other groups, and all other letters of the depth group
-  pub not-depth : (c : ℕ) → inD c ≡ true → number (groupOf s c) ≢ number depth
+  pub not-depth : (c : ℕ) → inD c ≡ true → groupNumber (groupOf s c) ≢ groupNumber depth
   unfolding groupOf
   not-depth c e = rw e (go (member c (letters s A)) (member c (letters s B)))
     where
-      go : (a b : Bool) → number (groupBy a b true) ≢ 3
+      go : (a b : Bool) → groupNumber (groupBy a b true) ≢ 3
       go true true = omega arith
       go false true = omega arith
       go true false = omega arith
@@ -29,9 +29,9 @@ module _ (s : Shape) where
   unfolding groupOf
   is-depth c e = rw e
 
-  pub depth-not-in : (c : ℕ) → number (groupOf s c) ≡ number depth → inD c ≡ false
+  pub depth-not-in : (c : ℕ) → groupNumber (groupOf s c) ≡ groupNumber depth → inD c ≡ false
   depth-not-in c e = go (inD c) (not-depth c)
     where
-      go : (b : Bool) → (b ≡ true → number (groupOf s c) ≢ number depth) → b ≡ false
+      go : (b : Bool) → (b ≡ true → groupNumber (groupOf s c) ≢ groupNumber depth) → b ≡ false
       go true f = absurd (f refl e)
       go false f = refl

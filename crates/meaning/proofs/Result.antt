@@ -14,8 +14,8 @@ use Rattle.words.proofs.Lists.{all-member, member-distinct}
 use Rattle.layout.specs.declared.layout.Layout.{Layout}
 use Rattle.layout.specs.Layout.{axes, address}
 use Rattle.labels.specs.Labels.{labels}
-use Rattle.points.specs.Questions.{extentsAgree}
-use Rattle.entries.specs.Questions.{inside, apart}
+use Rattle.points.specs.LabelQuestions.{extentsAgree}
+use Rattle.entries.specs.EntryQuestions.{inside, apart}
 use Rattle.entries.specs.Bounds.{InRange, Inside}
 use Rattle.entries.proofs.Bounds.{inside-every}
 use Rattle.entries.proofs.StridesApart.{apart-injective}
@@ -24,11 +24,11 @@ use Rattle.contraction.specs.Operands.{Operand, A, B, D, tensors, shape, togeth
 use Rattle.groups.specs.Groups.{letters, depth, group, outputs, size}
 use Rattle.meaning.specs.Index.{at, outIndex}
 use Rattle.meaning.specs.Meaning.{Slices, shapeIn, entry, value, result}
-use Rattle.meaning.proofs.Address.{group-distinct}
+use Rattle.meaning.proofs.CountAddress.{group-distinct}
 use Rattle.meaning.proofs.Nested.{sumOver-is-sumTo}
-use Rattle.meaning.proofs.Parts.{Below, partsAt, Splits, atParts, parts-in-range, parts-injective}
+use Rattle.meaning.proofs.IndexParts.{Below, partsAt, Splits, atParts, parts-in-range, parts-injective}
 use Rattle.meaning.proofs.Outputs.{inD}
-use Rattle.meaning.proofs.Counts.{out-labels, out-in-range}
+use Rattle.meaning.proofs.EngineIndices.{out-labels, out-in-range}
 
 -- ---- where questions 6, 8 and 9 pass
 module _ (t : Operand → Layout) (n : ℕ) (same : T (extentsAgree (together (shape t)))) (fits : T (inside (axes (t D)) (t D .base) n)) where

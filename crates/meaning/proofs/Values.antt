@@ -13,8 +13,8 @@ use Rattle.words.proofs.Sums.{sumTo-ext}
 use Rattle.layout.specs.Layout.{axes, address}
 use Rattle.layout.proofs.Address.{address-agree}
 use Rattle.labels.specs.Labels.{labels}
-use Rattle.points.specs.Questions.{extentsAgree}
-use Rattle.entries.specs.Questions.{inside, apart}
+use Rattle.points.specs.LabelQuestions.{extentsAgree}
+use Rattle.entries.specs.EntryQuestions.{inside, apart}
 use Rattle.entries.specs.Bounds.{InRange}
 use Rattle.entries.proofs.Bounds.{inside-every}
 use Rattle.entries.proofs.StridesApart.{apart-injective}
@@ -26,8 +26,8 @@ use Rattle.meaning.specs.Index.{at, outIndex}
 use Rattle.meaning.specs.Meaning.{Slices, shapeIn, entry, value, result}
 use Rattle.meaning.proofs.Index.{letter-in, group-same}
 use Rattle.meaning.proofs.Outputs.{is-depth, not-depth}
-use Rattle.meaning.proofs.Counts.{out-in-range}
-use Rattle.meaning.proofs.Address.{clear}
+use Rattle.meaning.proofs.EngineIndices.{out-in-range}
+use Rattle.meaning.proofs.CountAddress.{clear}
 use Rattle.meaning.proofs.Onto.{outputs-onto}
 use Rattle.meaning.proofs.Result.{result-at, result-other, term, value-counts}
 

@@ -1,2 +1,3 @@
+pub mod Demand2
 pub mod Index
 pub mod Meaning

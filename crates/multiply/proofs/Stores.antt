@@ -16,12 +16,12 @@ use Rattle.block.specs.Block.{Step}
 use Rattle.block.specs.Places.{placeOf, nextPlace, Stepped}
 use Rattle.block.proofs.Steps.{reaches}
 use Rattle.kernel.specs.Kernel.{columnSum, ColumnSums}
-use Rattle.kernel.specs.Needs.{Summable}
+use Rattle.kernel.specs.KernelNeeds.{Summable}
 use Rattle.store.specs.declared.store.Factors.{Factors}
 use Rattle.store.specs.Added.{addedTo}
 use Rattle.multiply.specs.declared.multiply.Packing.{Packing}
 use Rattle.multiply.specs.Stored.{columnStored, tileSum}
-use Rattle.multiply.specs.Needs.{Multipliable}
+use Rattle.multiply.specs.MultiplyNeeds.{Multipliable}
 
 module _ {from : ℕ} {rows : List ℕ} {m : ℕ} {row-step : Step} {columns : List ℕ} {n : ℕ} {step : Step} {p : Packing} {len size : ℕ}
     (able : Multipliable from rows m row-step columns n step p len size) where

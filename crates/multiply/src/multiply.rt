@@ -6,7 +6,7 @@ ghost use Rattle.limits.specs.Limits.{blockLimit};
 ghost use Rattle.block.specs.Places.{placeOf, nextPlace, asStep, Stepped};
 ghost use Rattle.store.specs.Added.{addedTo};
 ghost use Rattle.multiply.specs.Stored.{columnStored};
-ghost use Rattle.multiply.specs.Needs.{Multipliable};
+ghost use Rattle.multiply.specs.MultiplyNeeds.{Multipliable};
 use block::block::Block;
 use block::block::Step;
 use block::place::next_place;
@@ -72,7 +72,8 @@ fn next_four(
     requires { ⌜ (c + 4 ≤ t .columns) × (at ≡ placeOf (t .from) (now columns) c)
         × Multipliable (t .from) (now rows) (t .rows) (asStep (t .down)) (now columns) (t .columns) (asStep (t .across)) p
         (length (now d)) (length (now work)) ⌝ }
-    ensures { λ r. ⌜ (now (d .exit) ≡ each 4 (λ q. columnStored (now (work .entry)) p f (t .from) (now (columns .entry)) (now (rows .entry)) (t .rows) (c + q))
+    ensures { λ r. ⌜ (now (d .exit)
+        ≡ each 4 (λ q. columnStored (now (work .entry)) p f (t .from) (now (columns .entry)) (now (rows .entry)) (t .rows) (c + q))
         (now (d .entry)))
         × (c + 4 < t .columns → r ≡ placeOf (t .from) (now (columns .entry)) (c + 4)) ⌝ }
 {
@@ -127,8 +128,11 @@ pub fn multiply(
     p: Packing,
     f: Factors,
 )
-    requires { ⌜ Multipliable from (row .offsets) (row .count) (asStep (row .step)) (col .offsets) (col .count) (asStep (col .step)) p (length (now d)) (length (now work)) ⌝ }
-    ensures { λ _. ⌜ now (d .exit) ≡ each (col .count) (columnStored (now (work .entry)) p f from (col .offsets) (row .offsets) (row .count)) (now (d .entry)) ⌝ }
+    requires { ⌜ Multipliable from (row .offsets) (row .count) (asStep (row .step)) (col .offsets) (col .count)
+        (asStep (col .step)) p (length (now d)) (length (now work)) ⌝ }
+    ensures { λ _. ⌜ now (d .exit)
+        ≡ each (col .count) (columnStored (now (work .entry)) p f from (col .offsets) (row .offsets) (row .count))
+        (now (d .entry)) ⌝ }
 {
     let rows = row.offsets;
     let columns = col.offsets;

@@ -1,10 +1,10 @@
 ghost use mathlib.Core.Path.{_≡_};
 ghost use Rattle.layout.specs.Layout.{layoutOf};
 ghost use Rattle.contraction.specs.Operands.{three, contractionOf};
-ghost use Rattle.plain.specs.Call.{plainCall};
+ghost use Rattle.plain.specs.PlainCall.{plainCall};
 ghost use Rattle.flat.specs.Flat.{returned, flat};
 use flat::contraction_of::contraction_of;
-use flat::plain_answer::code_of;
+use flat::plain_answer::status_of;
 use plain::call::contract;
 
 // The plain engine: D becomes alpha × the sum over the labels that D lacks of A × B + beta × D.
@@ -28,7 +28,14 @@ pub extern "C" fn nezgrak_contract(
     alpha: u32,
     beta: u32,
 ) -> u32
-    ensures { λ r. ⌜ returned r (now (d .exit)) ≡ flat (plainCall (contractionOf (layoutOf (now («a_letters» .entry)) (now («a_extents» .entry)) (now («a_strides» .entry)) «a_base») (layoutOf (now («b_letters» .entry)) (now («b_extents» .entry)) (now («b_strides» .entry)) «b_base») (layoutOf (now («d_letters» .entry)) (now («d_extents» .entry)) (now («d_strides» .entry)) «d_base») alpha beta) (three (now (a .entry)) (now (b .entry)) (now (d .entry)))) ⌝ }
+    ensures { λ r. ⌜ returned r (now (d .exit))
+        ≡ flat (plainCall
+        (contractionOf
+        (layoutOf (now («a_letters» .entry)) (now («a_extents» .entry)) (now («a_strides» .entry)) «a_base»)
+        (layoutOf (now («b_letters» .entry)) (now («b_extents» .entry)) (now («b_strides» .entry)) «b_base»)
+        (layoutOf (now («d_letters» .entry)) (now («d_extents» .entry)) (now («d_strides» .entry)) «d_base»)
+        alpha beta)
+        (three (now (a .entry)) (now (b .entry)) (now (d .entry)))) ⌝ }
 {
     let c = contraction_of(
         a_letters,
@@ -46,5 +53,5 @@ pub extern "C" fn nezgrak_contract(
         alpha,
         beta,
     );
-    code_of(contract(c, a, b, d))
+    status_of(contract(c, a, b, d))
 }

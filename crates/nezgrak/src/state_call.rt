@@ -1,12 +1,12 @@
 ghost use mathlib.Core.Path.{_≡_};
 ghost use Rattle.layout.specs.Layout.{layoutOf};
 ghost use Rattle.contraction.specs.Operands.{three, contractionOf};
-ghost use Rattle.tiled.specs.Call.{stateCall};
+ghost use Rattle.tiled.specs.TileCall.{stateCall};
 ghost use Rattle.flat.specs.Flat.{sizesOf};
 ghost use Rattle.flat.specs.FlatState.{stateReturned, flatState};
 use flat::contraction_of::contraction_of;
-use flat::state_answer::number_of;
 use flat::state_answer::state_after;
+use flat::state_answer::status_of;
 use tiled::call::state as state_of;
 use tiles::grid::Sizes;
 
@@ -39,7 +39,16 @@ pub extern "C" fn nezgrak_state(
     column: u64,
     state: &mut u32,
 ) -> u32
-    ensures { λ r. ⌜ stateReturned r (now (state .exit)) ≡ flatState (now (state .entry)) (stateCall (contractionOf (layoutOf (now («a_letters» .entry)) (now («a_extents» .entry)) (now («a_strides» .entry)) «a_base») (layoutOf (now («b_letters» .entry)) (now («b_extents» .entry)) (now («b_strides» .entry)) «b_base») (layoutOf (now («d_letters» .entry)) (now («d_extents» .entry)) (now («d_strides» .entry)) «d_base») alpha beta) (sizesOf rows cols depth) (three (now (a .entry)) (now (b .entry)) (now (d .entry))) done batch row column) ⌝ }
+    ensures { λ r. ⌜ stateReturned r (now (state .exit))
+        ≡ flatState (now (state .entry)) (stateCall
+        (contractionOf
+        (layoutOf (now («a_letters» .entry)) (now («a_extents» .entry)) (now («a_strides» .entry)) «a_base»)
+        (layoutOf (now («b_letters» .entry)) (now («b_extents» .entry)) (now («b_strides» .entry)) «b_base»)
+        (layoutOf (now («d_letters» .entry)) (now («d_extents» .entry)) (now («d_strides» .entry)) «d_base»)
+        alpha beta)
+        (sizesOf rows cols depth)
+        (three (now (a .entry)) (now (b .entry)) (now (d .entry)))
+        done batch row column) ⌝ }
 {
     let c = contraction_of(
         a_letters,
@@ -60,5 +69,5 @@ pub extern "C" fn nezgrak_state(
     let z = Sizes { rows, cols, depth };
     let found = state_of(c, z, a, b, d, done, batch, row, column);
     *state = state_after(found, *state);
-    number_of(found)
+    status_of(found)
 }

@@ -1,13 +1,13 @@
 ghost use mathlib.Core.Path.{_≡_};
 ghost use Rattle.layout.specs.Layout.{layoutOf};
 ghost use Rattle.contraction.specs.Operands.{three, contractionOf};
-ghost use Rattle.tiled.specs.Call.{tileCall};
+ghost use Rattle.tiled.specs.TileCall.{tileCall};
 ghost use Rattle.flat.specs.Flat.{sizesOf};
 ghost use Rattle.flat.specs.FlatTiles.{tilesReturned, flatTiles};
 use flat::contraction_of::contraction_of;
 use flat::tile_answer::complete_of;
 use flat::tile_answer::done_of;
-use flat::tile_answer::number_of;
+use flat::tile_answer::status_of;
 use tiled::call::run;
 use tiles::grid::Sizes;
 
@@ -40,7 +40,16 @@ pub extern "C" fn nezgrak_run_tiles(
     done_after: &mut u64,
     complete: &mut u32,
 ) -> u32
-    ensures { λ r. ⌜ tilesReturned r (now («done_after» .exit)) (now (complete .exit)) (now (d .exit)) (now (work .exit)) ≡ flatTiles (tileCall (contractionOf (layoutOf (now («a_letters» .entry)) (now («a_extents» .entry)) (now («a_strides» .entry)) «a_base») (layoutOf (now («b_letters» .entry)) (now («b_extents» .entry)) (now («b_strides» .entry)) «b_base») (layoutOf (now («d_letters» .entry)) (now («d_extents» .entry)) (now («d_strides» .entry)) «d_base») alpha beta) (sizesOf rows cols depth) (three (now (a .entry)) (now (b .entry)) (now (d .entry))) (now (work .entry)) done budget) ⌝ }
+    ensures { λ r. ⌜ tilesReturned r (now («done_after» .exit)) (now (complete .exit)) (now (d .exit)) (now (work .exit))
+        ≡ flatTiles (tileCall
+        (contractionOf
+        (layoutOf (now («a_letters» .entry)) (now («a_extents» .entry)) (now («a_strides» .entry)) «a_base»)
+        (layoutOf (now («b_letters» .entry)) (now («b_extents» .entry)) (now («b_strides» .entry)) «b_base»)
+        (layoutOf (now («d_letters» .entry)) (now («d_extents» .entry)) (now («d_strides» .entry)) «d_base»)
+        alpha beta)
+        (sizesOf rows cols depth)
+        (three (now (a .entry)) (now (b .entry)) (now (d .entry)))
+        (now (work .entry)) done budget) ⌝ }
 {
     let c = contraction_of(
         a_letters,
@@ -62,5 +71,5 @@ pub extern "C" fn nezgrak_run_tiles(
     let outcome = run(c, z, a, b, d, work, done, budget);
     *done_after = done_of(outcome);
     *complete = complete_of(outcome);
-    number_of(outcome)
+    status_of(outcome)
 }

@@ -1,3 +1,4 @@
 pub mod Digits
+pub mod OffsetCases
 pub mod OffsetWords
 pub mod Runs

@@ -8,20 +8,20 @@ use native.Mathlib.Omega.{arith}
 use Rattle.groups.specs.Groups.{Label, size}
 use Rattle.groups.specs.Foldable.{Foldable}
 use Rattle.offsets.specs.Counts.{offset}
-use Rattle.offsets.specs.Lead.{lead}
+use Rattle.offsets.specs.FirstLabel.{firstLabel}
 use Rattle.offsets.proofs.Digits.{lowest, rest, pos-left}
 
-pub lead-long : (g : List Label) → Foldable g → 0 < lead g .extent
+pub lead-long : (g : List Label) → Foldable g → 0 < firstLabel g .extent
 lead-long [] f = omega arith
 lead-long (l ∷ g) f = f .extents .0
 
 -- and so in a group that has a count
-pub lead-counts : (g : List Label) {n : ℕ} → n < size g → 0 < lead g .extent
+pub lead-counts : (g : List Label) {n : ℕ} → n < size g → 0 < firstLabel g .extent
 lead-counts [] h = omega arith
 lead-counts (l ∷ g) {n} h = pos-left (l .extent) (size g) n h
 
 -- the offset of a count is that of its run's first count and v times the lead's weight
-pub offset-run : (f : Label → ℕ) (g : List Label) (e m v : ℕ) → f (lead []) ≡ 0 → e ≡ lead g .extent → v < e → offset f g (e * m + v) ≡ offset f g (e * m) + v * f (lead g)
+pub offset-run : (f : Label → ℕ) (g : List Label) (e m v : ℕ) → f (firstLabel []) ≡ 0 → e ≡ firstLabel g .extent → v < e → offset f g (e * m + v) ≡ offset f g (e * m) + v * f (firstLabel g)
 offset-run f [] e m v z q h = rw z (omega arith)
 offset-run f (l ∷ g) e m v z q h =
     let p : 0 < e = omega arith in
@@ -35,7 +35,7 @@ module _ (e n : ℕ) (h : n % e + 1 < e) where
   pub next-lowest : (n + 1) % e ≡ n % e + 1
   next-lowest = ap (λ (x : ℕ). x % e) next-count ∙ lowest e (n / e) h
 
-  pub offset-next : (f : Label → ℕ) (g : List Label) → f (lead []) ≡ 0 → e ≡ lead g .extent → offset f g (n + 1) ≡ offset f g n + f (lead g)
+  pub offset-next : (f : Label → ℕ) (g : List Label) → f (firstLabel []) ≡ 0 → e ≡ firstLabel g .extent → offset f g (n + 1) ≡ offset f g n + f (firstLabel g)
   offset-next f g z q =
       let here = ap (offset f g) (sym (div-add-mod n e)) ∙ offset-run f g e (n / e) (n % e) z q (omega arith) in
       let there = ap (offset f g) next-count ∙ offset-run f g e (n / e) (n % e + 1) z q h in

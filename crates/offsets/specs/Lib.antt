@@ -1,3 +1,4 @@
 pub mod Counts
-pub mod Lead
+pub mod FirstLabel
+pub mod OffsetCases
 pub mod Offsets

@@ -1,3 +1,3 @@
 // How far a count of a group goes in each tensor, and the runs of its first label.
-pub mod lead;
+pub mod first_label;
 pub mod offsets;

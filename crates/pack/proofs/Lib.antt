@@ -1,1 +1,2 @@
+pub mod PackedCases
 pub mod Packing

@@ -1,2 +1,3 @@
-pub mod Needs
+pub mod PackNeeds
 pub mod Packed
+pub mod PackedCases

@@ -6,7 +6,7 @@ ghost use Rattle.words.specs.Fronts.{stored, front};
 ghost use Rattle.limits.specs.Limits.{blockLimit};
 ghost use Rattle.block.specs.Places.{placeOf, asStep, Stepped};
 ghost use Rattle.pack.specs.Packed.{packedWord};
-ghost use Rattle.pack.specs.Needs.{Packable};
+ghost use Rattle.pack.specs.PackNeeds.{Packable};
 use block::block::Block;
 use block::block::Step;
 use block::place::next_place;
@@ -22,8 +22,12 @@ fn pack_lane(
     out: &mut [u32],
     to: usize,
 )
-    requires { ⌜ (count ≤ blockLimit) × Stepped count (now offsets) (asStep step) × Within count (placeOf from (now offsets)) (length (now src)) × (to + count ≤ length (now out)) ⌝ }
-    ensures { λ _. ⌜ now (out .exit) ≡ stored count (λ r. getD (now (src .entry)) (placeOf from (now (offsets .entry)) r) 0) to (now (out .entry)) ⌝ }
+    requires { ⌜ (count ≤ blockLimit)
+        × Stepped count (now offsets) (asStep step)
+        × Within count (placeOf from (now offsets)) (length (now src))
+        × (to + count ≤ length (now out)) ⌝ }
+    ensures { λ _. ⌜ now (out .exit)
+        ≡ stored count (λ r. getD (now (src .entry)) (placeOf from (now (offsets .entry)) r) 0) to (now (out .entry)) ⌝ }
 {
     let mut at = std::num::wrapping_add_u64(from, offsets[0]);
     let mut r: usize = 0;
@@ -57,7 +61,11 @@ pub fn pack(
     out: &mut [u32],
 )
     requires { ⌜ Packable (now starts) filled block width depth (length (now src)) (length (now out)) ⌝ }
-    ensures { λ _. ⌜ now (out .exit) ≡ front (width * depth) (packedWord width (block .count) filled (λ n d. getD (now (src .entry)) (placeOf (getD (now (starts .entry)) d 0) (block .offsets) n) 0)) (now (out .entry)) ⌝ }
+    ensures { λ _. ⌜ now (out .exit)
+        ≡ front (width * depth)
+        (packedWord width (block .count) filled
+        (λ n d. getD (now (src .entry)) (placeOf (getD (now (starts .entry)) d 0) (block .offsets) n) 0))
+        (now (out .entry)) ⌝ }
 {
     let offsets = block.offsets;
     let count = block.count;

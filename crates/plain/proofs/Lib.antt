@@ -1,2 +1,2 @@
-pub mod Answered
-pub mod Demands
+pub mod PlainAnswered
+pub mod PlainDemand

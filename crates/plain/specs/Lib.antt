@@ -1,2 +1,2 @@
-pub mod Call
-pub mod Demand
+pub mod PlainCall
+pub mod PlainDemand

@@ -1,6 +1,6 @@
 ghost use mathlib.Core.Path.{_≡_};
 ghost use Rattle.contraction.specs.Operands.{three};
-ghost use Rattle.plain.specs.Call.{answerOf, gave, plainCall};
+ghost use Rattle.plain.specs.PlainCall.{plainAnswer, plainCallOf, plainCall};
 use contraction::contraction::Contraction;
 use contraction::contraction::Lengths;
 use direct::fill::fill;
@@ -16,7 +16,8 @@ pub enum Outcome {
 
 // Questions 1 to 9; where all pass, D's words become the contraction's. A refusal changes no word.
 pub fn contract(c: Contraction, a: &[u32], b: &[u32], d: &mut [u32]) -> Outcome
-    ensures { λ r. ⌜ gave (answerOf r) (now (d .exit)) ≡ plainCall c (three (now (a .entry)) (now (b .entry)) (now (d .entry))) ⌝ }
+    ensures { λ r. ⌜ plainCallOf (plainAnswer r) (now (d .exit))
+        ≡ plainCall c (three (now (a .entry)) (now (b .entry)) (now (d .entry))) ⌝ }
 {
     let n = Lengths {
         a: a.len(),

@@ -12,17 +12,17 @@ use Rattle.words.specs.Lists.{keep, cons-if}
 use Rattle.words.proofs.Sums.{product-map}
 use Rattle.layout.specs.declared.layout.Layout.{Layout}
 use Rattle.labels.specs.Labels.{extentOf, labels}
-use Rattle.points.specs.Questions.{points}
+use Rattle.points.specs.LabelQuestions.{points}
 use Rattle.contraction.specs.Operands.{Operand, Shape, shape, together}
 use Rattle.questions.proofs.Ready.{AllPassed}
-use Rattle.groups.specs.Groups.{Label, label, Group, batch, row, column, depth, groupOf, number, inGroup, group, size}
-use Rattle.plan.proofs.Foldable.{group-foldable}
+use Rattle.groups.specs.Groups.{Label, label, Group, batch, row, column, depth, groupOf, groupNumber, inGroup, group, size}
+use Rattle.plan.proofs.GroupsFoldable.{group-foldable}
 
 -- ---- letters, each with a factor and in a group
 module _ (f : ℕ → ℕ) (of : ℕ → Group) where
   -- the product over the letters of a group
   abbrev share : Group → List ℕ → ℕ
-  share g cs = product f (keep (λ c. eqb (number (of c)) (number g)) cs)
+  share g cs = product f (keep (λ c. eqb (groupNumber (of c)) (groupNumber g)) cs)
 
   shares : (cs : List ℕ) → share batch cs * share row cs * share column cs * share depth cs ≡ product f cs
   shares [] = refl
@@ -30,7 +30,7 @@ module _ (f : ℕ → ℕ) (of : ℕ → Group) where
     where
       -- with a letter more, which is in the group h
       more : Group → Group → ℕ
-      more h g = product f (cons-if (eqb (number h) (number g)) c (keep (λ c. eqb (number (of c)) (number g)) cs))
+      more h g = product f (cons-if (eqb (groupNumber h) (groupNumber g)) c (keep (λ c. eqb (groupNumber (of c)) (groupNumber g)) cs))
 
       go : (h : Group) → f c * (share batch cs * share row cs * share column cs * share depth cs) ≡ f c * product f cs
           → more h batch * more h row * more h column * more h depth ≡ f c * product f cs

@@ -1,4 +1,4 @@
-pub mod Foldable
+pub mod GroupsFoldable
 pub mod GroupSizes
 pub mod Reached
 pub mod Wrapped

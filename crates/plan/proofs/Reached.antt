@@ -8,7 +8,7 @@ use native.Mathlib.Omega.{arith}
 use borrow.Author.Tests.{leb-true}
 use lib.Dec.{leb}
 use lib.IntN.{ℤ}
-use Rattle.words.specs.Sums.{total}
+use Rattle.words.specs.Sums.{sumOf}
 use Rattle.words.specs.Lists.{member}
 use Rattle.words.specs.Words.{word, up, down, wordOf}
 use Rattle.words.proofs.Lists.{T-true}
@@ -18,7 +18,7 @@ use Rattle.words.proofs.Whole.{sign}
 use Rattle.limits.specs.Limits.{baseLimit, sliceLimit}
 use Rattle.layout.specs.declared.layout.Layout.{Layout}
 use Rattle.layout.specs.Layout.{axes, address}
-use Rattle.validity.specs.Questions.{stridesValid, sizesValid}
+use Rattle.validity.specs.TensorQuestions.{stridesValid, sizesValid}
 use Rattle.entries.specs.Bounds.{Inside}
 use Rattle.entries.proofs.Bounds.{inside-every}
 use Rattle.contraction.specs.Operands.{Operand, D, shape}
@@ -27,15 +27,15 @@ use Rattle.groups.specs.Groups.{letters, Group, batch, row, column, depth, labe
 use Rattle.offsets.specs.Counts.{offsetIn}
 use Rattle.folding.specs.Fold.{fold}
 use Rattle.meaning.specs.Index.{at, index, outIndex}
-use Rattle.meaning.proofs.Counts.{groupsAt, groups-separate, groups-cover, outputAt, depthAt, out-separate, out-covers, term-separate, term-covers}
-use Rattle.meaning.proofs.Parts.{Part, Separate, Below, covered, atParts, offsets, parts-in-range, parts-balanced, address-parts}
-use Rattle.plan.proofs.Foldable.{where-foldable}
+use Rattle.meaning.proofs.EngineIndices.{groupsAt, groups-separate, groups-cover, outputAt, depthAt, out-separate, out-covers, term-separate, term-covers}
+use Rattle.meaning.proofs.IndexParts.{Part, Separate, Below, covered, atParts, offsets, parts-in-range, parts-balanced, address-parts}
+use Rattle.plan.proofs.GroupsFoldable.{where-foldable}
 use Rattle.plan.proofs.Wrapped.{wraps, folded-word}
 
 module _ (t : Operand → Layout) (n : Operand → ℕ) (p : AllPassed t n) where
   -- the offsets of the folded labels at all counts
   abbrev pub foldedOffsets : (ℤ → ℕ) → Operand → List Part → ℕ
-  foldedOffsets part o ps = total (λ q. offsetIn part o (fold (labelsWhere (shape t) (q .test))) (q .count)) ps
+  foldedOffsets part o ps = sumOf (λ q. offsetIn part o (fold (labelsWhere (shape t) (q .test))) (q .count)) ps
 
   parts-words : (o : Operand) (ps : List Part)
       → foldedOffsets (wordOf 64) o ps + offsets (shape t) down o ps ≡ offsets (shape t) up o ps + foldedOffsets sign o ps * 2 ^ 64

@@ -15,7 +15,7 @@ use Rattle.groups.specs.Foldable.{Foldable}
 use Rattle.offsets.specs.Counts.{offsetIn}
 use Rattle.folding.specs.Fold.{fold}
 use Rattle.folding.proofs.FoldKeeps.{fold-up, fold-down}
-use Rattle.plan.proofs.Foldable.{fold-foldable}
+use Rattle.plan.proofs.GroupsFoldable.{fold-foldable}
 
 -- sums of words that wrap give the address: the words differ from the ups less the downs by whole rounds
 pub wraps : (base ups downs words rounds : ℕ) → words + downs ≡ ups + rounds * 2 ^ 64 → downs ≤ base + ups → (base + ups) - downs < 2 ^ 64

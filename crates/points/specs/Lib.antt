@@ -1,1 +1,2 @@
-pub mod Questions
+pub mod LabelCases
+pub mod LabelQuestions

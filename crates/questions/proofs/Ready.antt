@@ -15,15 +15,15 @@ use Rattle.layout.specs.declared.layout.Layout.{Layout}
 use Rattle.layout.specs.Layout.{axes}
 use Rattle.layout.specs.Listed.{listed}
 use Rattle.validity.specs.Checked.{Checked}
-use Rattle.validity.specs.Questions.{rankFits, countsMatch, lettersValid, extentsValid, stridesValid, sizesValid}
-use Rattle.points.specs.Questions.{extentsAgree, pointsFit}
-use Rattle.entries.specs.Questions.{inside, apart}
+use Rattle.validity.specs.TensorQuestions.{rankFits, countsMatch, lettersValid, extentsValid, stridesValid, sizesValid}
+use Rattle.points.specs.LabelQuestions.{extentsAgree, pointsFit}
+use Rattle.entries.specs.EntryQuestions.{inside, apart}
 use Rattle.contraction.specs.declared.contraction.Contraction.{Contraction}
 use Rattle.contraction.specs.declared.contraction.Lengths.{Lengths}
 use Rattle.contraction.specs.declared.operands.Operands.{Operands}
 use Rattle.contraction.specs.Operands.{Operand, A, B, D, Shape, tensors, lengths, shape, together}
-use Rattle.contraction.specs.Lists.{shapeOf, axesIn, LowRank, Lists, Ready}
-use Rattle.questions.specs.Questions.{refusal, ofEach, eachTensor, allLabels, entries, layoutQuestions}
+use Rattle.contraction.specs.TensorAxes.{shapeOf, axesIn, LowRank, Lists, Ready}
+use Rattle.questions.specs.Questions.{refusal, ofEach, tensorQuestions, labelQuestions, entryQuestions, layoutQuestions}
 use Rattle.questions.proofs.Refusal.{passed, refusal-both, ofEach-true}
 
 -- questions 1 to 5 pass
@@ -43,10 +43,10 @@ pub record AllPassed (t : Operand → Layout) (n : Operand → ℕ) : Type 0 whe
   pub distinct : apart (axes (t D)) ≡ true
 
 -- questions that refuse nothing pass
-pub each-passed : (t : Operand → Layout) (n : Operand → ℕ) → refusal (eachTensor t n) ≡ 0 → EachPassed t n
-unfolding eachTensor
+pub each-passed : (t : Operand → Layout) (n : Operand → ℕ) → refusal (tensorQuestions t n) ≡ 0 → EachPassed t n
+unfolding tensorQuestions
 each-passed t n e =
-    let a = passed (eachTensor t n) tt e in
+    let a = passed (tensorQuestions t n) tt e in
     record {
       ranks = ofEach-true (λ o. rankFits (t o)) (a .0);
       counts = ofEach-true (λ o. countsMatch (t o)) (a .1 .0);
@@ -56,10 +56,10 @@ each-passed t n e =
     }
 
 pub accepted-parts : (t : Operand → Layout) (n : Operand → ℕ) → refusal (layoutQuestions t n) ≡ 0 → AllPassed t n
-unfolding layoutQuestions eachTensor allLabels entries
+unfolding layoutQuestions tensorQuestions labelQuestions entryQuestions
 accepted-parts t n e =
-    let r = refusal-both (eachTensor t n) (allLabels t n ++ entries t n) tt e in
-    let a = passed (allLabels t n ++ entries t n) tt (r .1) in
+    let r = refusal-both (tensorQuestions t n) (labelQuestions t n ++ entryQuestions t n) tt e in
+    let a = passed (labelQuestions t n ++ entryQuestions t n) tt (r .1) in
     record {
       each = each-passed t n (r .0);
       agree = a .0;
@@ -82,11 +82,11 @@ pub ranks-low : (c : Contraction) → ofEach (λ o. rankFits (tensors c o)) ≡ 
 unfolding rankFits
 ranks-low c e = record { each = λ o. leb-true (tensors c o .«letter_count») rankLimit (ofEach-true (λ o. rankFits (tensors c o)) e o) }
 
-pub low-rank : (c : Contraction) (n : Lengths) → refusal (eachTensor (tensors c) (lengths n)) ≡ 0 → LowRank c
-unfolding eachTensor
-low-rank c n e = ranks-low c (passed (eachTensor (tensors c) (lengths n)) tt e .0)
+pub low-rank : (c : Contraction) (n : Lengths) → refusal (tensorQuestions (tensors c) (lengths n)) ≡ 0 → LowRank c
+unfolding tensorQuestions
+low-rank c n e = ranks-low c (passed (tensorQuestions (tensors c) (lengths n)) tt e .0)
 
-module _ (c : Contraction) (n : Lengths) (x : Operands) (e : refusal (eachTensor (tensors c) (lengths n)) ≡ 0) (l : Lists c x) where
+module _ (c : Contraction) (n : Lengths) (x : Operands) (e : refusal (tensorQuestions (tensors c) (lengths n)) ≡ 0) (l : Lists c x) where
   -- each list passes the tests of its tensor, and so does the list of all
   checked : (o : Operand) → Checked (axesIn x o)
   unfolding sizesValid

@@ -4,7 +4,7 @@ use Prim.Native.Nat.{ℕ}
 use mathlib.Core.Path.{_≡_}
 use Rattle.layout.specs.declared.layout.Layout.{Layout}
 use Rattle.layout.specs.Layout.{axes}
-use Rattle.validity.specs.declared.questions.Valid.{Valid}
+use Rattle.validity.specs.declared.tensor_questions.Valid.{Valid}
 use Rattle.validity.specs.Checked.{ValidOf}
 use Rattle.contraction.specs.declared.contraction.Contraction.{Contraction}
 use Rattle.contraction.specs.Operands.{Operand, three, tensors}

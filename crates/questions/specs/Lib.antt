@@ -1,2 +1,3 @@
 pub mod Answers
+pub mod QuestionCases
 pub mod Questions

@@ -6,9 +6,9 @@ use mathlib.Core.List.{List, [], _∷_, _++_}
 use Rattle.words.specs.Sums.{every}
 use Rattle.layout.specs.declared.layout.Layout.{Layout}
 use Rattle.layout.specs.Layout.{axes}
-use Rattle.validity.specs.Questions.{rankFits, countsMatch, lettersValid, extentsValid, sizesValid}
-use Rattle.points.specs.Questions.{extentsAgree, pointsFit}
-use Rattle.entries.specs.Questions.{inside, apart}
+use Rattle.validity.specs.TensorQuestions.{rankFits, countsMatch, lettersValid, extentsValid, sizesValid}
+use Rattle.points.specs.LabelQuestions.{extentsAgree, pointsFit}
+use Rattle.entries.specs.EntryQuestions.{inside, apart}
 use Rattle.contraction.specs.Operands.{Operand, D, operands, shape, together}
 
 -- a question: its number, and whether the answer is yes
@@ -30,8 +30,8 @@ ofEach p = every p operands
 
 module _ (t : Operand → Layout) (n : Operand → ℕ) where
   -- 1 to 5: of each tensor by itself
-  unfoldable pub eachTensor : List Question
-  eachTensor =
+  unfoldable pub tensorQuestions : List Question
+  tensorQuestions =
       ask 1 (ofEach (λ o. rankFits (t o)))
       ∷ ask 2 (ofEach (λ o. countsMatch (t o)))
       ∷ ask 3 (ofEach (λ o. lettersValid (axes (t o))))
@@ -40,19 +40,19 @@ module _ (t : Operand → Layout) (n : Operand → ℕ) where
       ∷ []
 
   -- 6 and 7: of the labels of all tensors
-  unfoldable pub allLabels : List Question
-  allLabels =
+  unfoldable pub labelQuestions : List Question
+  labelQuestions =
       ask 6 (extentsAgree (together (shape t)))
       ∷ ask 7 (pointsFit (together (shape t)))
       ∷ []
 
   -- 8 and 9: of the entries
-  unfoldable pub entries : List Question
-  entries =
+  unfoldable pub entryQuestions : List Question
+  entryQuestions =
       ask 8 (ofEach (λ o. inside (axes (t o)) (t o .base) (n o)))
       ∷ ask 9 (apart (axes (t D)))
       ∷ []
 
   -- 1 to 9: of the layouts and the slices' lengths
   unfoldable pub layoutQuestions : List Question
-  layoutQuestions = eachTensor ++ (allLabels ++ entries)
+  layoutQuestions = tensorQuestions ++ (labelQuestions ++ entryQuestions)

@@ -2,20 +2,20 @@ ghost use mathlib.Core.Path.{_≡_};
 ghost use mathlib.Core.Bool.{cond};
 ghost use mathlib.Core.List.{_++_};
 ghost use Rattle.layout.specs.Layout.{axes};
-ghost use Rattle.validity.specs.Questions.{rankFits, countsMatch, sizesValid};
-ghost use Rattle.entries.specs.Questions.{inside};
+ghost use Rattle.validity.specs.TensorQuestions.{rankFits, countsMatch, sizesValid};
+ghost use Rattle.entries.specs.EntryQuestions.{inside};
 ghost use Rattle.contraction.specs.Operands.{three, tensors, lengths};
-ghost use Rattle.contraction.specs.Lists.{Lists, Ready};
-ghost use Rattle.questions.specs.Questions.{ofEach, refusal, eachTensor, allLabels, entries, layoutQuestions};
+ghost use Rattle.contraction.specs.TensorAxes.{Lists, Ready};
+ghost use Rattle.questions.specs.Questions.{ofEach, refusal, tensorQuestions, labelQuestions, entryQuestions, layoutQuestions};
 ghost use Rattle.questions.specs.Answers.{Answered};
 use contraction::contraction::Contraction;
 use contraction::contraction::Lengths;
 use contraction::operands::Operands;
 use entries::apart::all_apart;
 use entries::inside::all_inside;
-use points::questions::extents_agree;
-use points::questions::points_fit;
-use validity::questions::Valid;
+use points::label_questions::extents_agree;
+use points::label_questions::points_fit;
+use validity::tensor_questions::Valid;
 
 // What questions 3, 4 and 5 ask of the axes of each tensor.
 pub struct Answers {
@@ -46,9 +46,9 @@ fn ranks_fit(c: Contraction) -> bool
     let b = c.b;
     let d = c.d;
     of_each(
-        validity::questions::rank_fits(a),
-        validity::questions::rank_fits(b),
-        validity::questions::rank_fits(d),
+        validity::tensor_questions::rank_fits(a),
+        validity::tensor_questions::rank_fits(b),
+        validity::tensor_questions::rank_fits(d),
     )
 }
 
@@ -60,9 +60,9 @@ fn counts_match(c: Contraction) -> bool
     let b = c.b;
     let d = c.d;
     of_each(
-        validity::questions::counts_match(a),
-        validity::questions::counts_match(b),
-        validity::questions::counts_match(d),
+        validity::tensor_questions::counts_match(a),
+        validity::tensor_questions::counts_match(b),
+        validity::tensor_questions::counts_match(d),
     )
 }
 
@@ -75,9 +75,9 @@ fn answers_of(c: Contraction, x: Operands) -> Answers
     let b = x.b;
     let d = x.d;
     Answers {
-        a: validity::questions::valid_of(a),
-        b: validity::questions::valid_of(b),
-        d: validity::questions::valid_of(d),
+        a: validity::tensor_questions::valid_of(a),
+        b: validity::tensor_questions::valid_of(b),
+        d: validity::tensor_questions::valid_of(d),
     }
 }
 
@@ -93,9 +93,9 @@ fn sizes_valid(c: Contraction, v: Answers, n: Lengths) -> bool
     let b = v.b;
     let d = v.d;
     of_each(
-        validity::questions::sizes_valid(la, a.strides, n.a),
-        validity::questions::sizes_valid(lb, b.strides, n.b),
-        validity::questions::sizes_valid(ld, d.strides, n.d),
+        validity::tensor_questions::sizes_valid(la, a.strides, n.a),
+        validity::tensor_questions::sizes_valid(lb, b.strides, n.b),
+        validity::tensor_questions::sizes_valid(ld, d.strides, n.d),
     )
 }
 
@@ -119,7 +119,7 @@ fn entries_inside(c: Contraction, n: Lengths, x: Operands) -> bool
 
 // Questions 1 to 5: the number of the first no, or 0. The lists of axes are made where question 1 passes.
 fn each_refusal(c: Contraction, n: Lengths) -> u32
-    ensures { λ r. ⌜ r ≡ refusal (eachTensor (tensors c) (lengths n)) ⌝ }
+    ensures { λ r. ⌜ r ≡ refusal (tensorQuestions (tensors c) (lengths n)) ⌝ }
 {
     if !ranks_fit(c) {
         return 1;
@@ -142,7 +142,7 @@ fn each_refusal(c: Contraction, n: Lengths) -> u32
 // Questions 6 to 9: the number of the first no, or 0.
 fn later_refusal(c: Contraction, n: Lengths, x: Operands) -> u32
     requires { ⌜ Ready c x ⌝ }
-    ensures { λ r. ⌜ r ≡ refusal (allLabels (tensors c) (lengths n) ++ entries (tensors c) (lengths n)) ⌝ }
+    ensures { λ r. ⌜ r ≡ refusal (labelQuestions (tensors c) (lengths n) ++ entryQuestions (tensors c) (lengths n)) ⌝ }
 {
     let all = x.all;
     let d = x.d;

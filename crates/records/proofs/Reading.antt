@@ -13,8 +13,8 @@ use Rattle.limits.specs.Limits.{rankLimit, jobLimit}
 use Rattle.little_endian.specs.Bytes.{has, little}
 use Rattle.marks.specs.declared.marks.Kind.{Kind}
 use Rattle.marks.specs.Marks.{kindOf, wordWidth}
-use Rattle.records.specs.Records.{Reading, got, refused, then, kindAt}
-use Rattle.records.specs.Parts.{mapReading, LayoutHeld, WordsHeld, Held, ReadAs}
+use Rattle.records.specs.Records.{Reading, got, fileRefused, then, kindAt}
+use Rattle.records.specs.RecordParts.{mapReading, LayoutHeld, WordsHeld, Held, ReadAs}
 
 -- a question b that the code answered by r
 module _ {r b : Bool} (e : r ≡ b) where
@@ -37,7 +37,7 @@ module _ {P X : Type 0} {of : List ℕ → P → X} {held : List ℕ → P → T
 
   -- it refuses the file, and so does the code
   pub stops : {Q Y : Type 0} {of′ : List ℕ → Q → Y} {held′ : List ℕ → Q → Type 0} {number : ℕ} (rest : X → ℕ → Reading Y)
-      → read ≡ refused number → ReadAs of′ held′ file (refused number) (then all rest)
+      → read ≡ fileRefused number → ReadAs of′ held′ file (fileRefused number) (then all rest)
   stops rest is = goes-on rest is (record { same = refl; sound = tt })
 
 module _ (file : List ℕ) where

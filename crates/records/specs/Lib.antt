@@ -1,2 +1,3 @@
-pub mod Parts
+pub mod RecordCases
+pub mod RecordParts
 pub mod Records

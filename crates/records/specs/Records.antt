@@ -15,16 +15,16 @@ use Rattle.marks.specs.Marks.{kindOf, isLayout, wordWidth}
 -- what was read and where the next record begins, or the number that refuses the file
 pub data Reading (X : Type 0) : Type 0 where
   got : (value : X) (next : ℕ) → Reading X
-  refused : (number : ℕ) → Reading X
+  fileRefused : (number : ℕ) → Reading X
 
 -- a question: where the answer is no, its number
 abbrev pub check : {X : Type 0} → Bool → ℕ → Reading X → Reading X
-check passes number rest = cond passes rest (refused number)
+check passes number rest = cond passes rest (fileRefused number)
 
 -- one reading after another: the rest reads on from the value and the place that the first got; a refusal ends both
 abbrev pub then : {X Y : Type 0} → Reading X → (X → ℕ → Reading Y) → Reading Y
 then (got value next) rest = rest value next
-then (refused number) rest = refused number
+then (fileRefused number) rest = fileRefused number
 
 pub record Tensor : Type 0 where
   pub layout : Layout

@@ -1,7 +1,7 @@
 ghost use Prim.Native.Nat.{_+_, _≤_};
 ghost use lib.ListN.{length};
 ghost use Rattle.records.specs.Records.{layoutRecord, wordsRecord, wordsAfter, tensorRecords};
-ghost use Rattle.records.specs.Parts.{layoutPart, wordsPart, tensorParts, layoutIn, wordsOf, tensorIn, LayoutHeld, WordsHeld, TensorHeld, ReadAs};
+ghost use Rattle.records.specs.RecordParts.{layoutPart, wordsPart, tensorParts, layoutIn, wordsOf, tensorIn, LayoutHeld, WordsHeld, TensorHeld, ReadAs};
 use limits::limits::Limits;
 use little_endian::numbers::Cursor;
 use little_endian::numbers::four_bytes;
@@ -111,7 +111,8 @@ fn words_record(file: &[u8], from: Cursor, letter: u8) -> WordsRead
 // The tensor of a layout that was read: its words come next.
 fn words_after(file: &[u8], layout: LayoutPart, from: Cursor, letter: u8) -> TensorRead
     requires { ⌜ LayoutHeld (now file) layout × (from .at ≤ length (now file)) ⌝ }
-    ensures { λ r. ⌜ ReadAs tensorIn TensorHeld (now (file .entry)) (tensorParts r) (wordsAfter (now (file .entry)) letter (layoutIn (now (file .entry)) layout) (from .at)) ⌝ }
+    ensures { λ r. ⌜ ReadAs tensorIn TensorHeld (now (file .entry)) (tensorParts r)
+        (wordsAfter (now (file .entry)) letter (layoutIn (now (file .entry)) layout) (from .at)) ⌝ }
 {
     let read = words_record(file, from, letter);
     match read {
@@ -129,7 +130,8 @@ fn words_after(file: &[u8], layout: LayoutPart, from: Cursor, letter: u8) -> Ten
 // Both records of the tensor with this letter.
 pub fn tensor_records(file: &[u8], from: Cursor, letter: u8) -> TensorRead
     requires { ⌜ from .at ≤ length (now file) ⌝ }
-    ensures { λ r. ⌜ ReadAs tensorIn TensorHeld (now (file .entry)) (tensorParts r) (tensorRecords (now (file .entry)) letter (from .at)) ⌝ }
+    ensures { λ r. ⌜ ReadAs tensorIn TensorHeld (now (file .entry)) (tensorParts r)
+        (tensorRecords (now (file .entry)) letter (from .at)) ⌝ }
 {
     let read = layout_record(file, from, letter);
     match read {

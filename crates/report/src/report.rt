@@ -68,7 +68,8 @@ fn put_word(out: &mut [u8], at: usize, word: u32, letter: u8) -> usize
 // Puts a line for each word.
 fn put_words(out: &mut [u8], at: usize, words: &[u32], letters: &[u8]) -> usize
     requires { ⌜ (length (now letters) ≡ length (now words)) × (at + 13 * length (now words) ≤ length (now out)) ⌝ }
-    ensures { λ r. ⌜ Put (now (out .entry)) at (wordLines (now (words .entry)) (now (letters .entry)) (length (now (words .entry)))) r (now (out .exit)) ⌝ }
+    ensures { λ r. ⌜ Put (now (out .entry)) at
+        (wordLines (now (words .entry)) (now (letters .entry)) (length (now (words .entry)))) r (now (out .exit)) ⌝ }
 {
     let mut end = at;
     let mut k: usize = 0;

@@ -5,11 +5,11 @@ ghost use Rattle.contraction.specs.Operands.{three};
 ghost use Rattle.groups.specs.Groups.{size};
 ghost use Rattle.groups.specs.Held.{labelsIn};
 ghost use Rattle.offsets.specs.Offsets.{wordsIn};
-ghost use Rattle.scatter.specs.Laid.{Laid, Blocked};
+ghost use Rattle.scatter.specs.ScatterVectors.{ScatterVectors, Blocked};
 use block::block::Block;
 use groups::groups::Group;
 use limits::limits::Limits;
-use offsets::lead::Lead;
+use offsets::first_label::FirstLabel;
 use offsets::offsets::Offsets;
 
 // For each tensor the block of the same counts of a group.
@@ -19,9 +19,9 @@ pub struct Blocks {
     pub d: Block,
 }
 
-// The offsets of `count` counts of a group from `first` on, in each tensor, moved by `from`. They are formed anew where the first label starts again, and a
-// step is added elsewhere; `left` is how many steps there are up to the next start.
-pub fn lay(
+// The scatter vectors of `count` counts of a group from `first` on: their offsets in each tensor, moved by `from`. They are formed anew where the first
+// label starts again, and a step is added elsewhere; `left` is how many steps there are up to the next start.
+pub fn scatter_vectors(
     g: Group,
     from: Offsets,
     first: u32,
@@ -30,10 +30,16 @@ pub fn lay(
     b: &mut [u64],
     d: &mut [u64],
 )
-    requires { ⌜ (g .count ≤ axesLimit) × (size (labelsIn g) < 2 ^ 32) × (first + count ≤ size (labelsIn g)) × (count ≤ length (now a)) × (count ≤ length (now b)) × (count ≤ length (now d)) ⌝ }
-    ensures { λ _. ⌜ Laid (wordsIn from) (labelsIn g) first count (three (now (a .entry)) (now (b .entry)) (now (d .entry))) (three (now (a .exit)) (now (b .exit)) (now (d .exit))) ⌝ }
+    requires { ⌜ (g .count ≤ axesLimit)
+        × (size (labelsIn g) < 2 ^ 32)
+        × (first + count ≤ size (labelsIn g))
+        × (count ≤ length (now a))
+        × (count ≤ length (now b))
+        × (count ≤ length (now d)) ⌝ }
+    ensures { λ _. ⌜ ScatterVectors (wordsIn from) (labelsIn g) first count
+        (three (now (a .entry)) (now (b .entry)) (now (d .entry))) (three (now (a .exit)) (now (b .exit)) (now (d .exit))) ⌝ }
 {
-    let lead = Lead::of(g);
+    let lead = FirstLabel::of(g);
     let step = lead.step;
     let len = lead.len;
     let mut at = from;
@@ -65,7 +71,7 @@ impl Blocks {
         let mut b = [0u64; Limits::BLOCK];
         let mut d = [0u64; Limits::BLOCK];
         let still = Offsets { a: 0, b: 0, d: 0 };
-        lay(g, still, first, count, &mut a, &mut b, &mut d);
+        scatter_vectors(g, still, first, count, &mut a, &mut b, &mut d);
         Blocks {
             a: Block::of(a, count),
             b: Block::of(b, count),

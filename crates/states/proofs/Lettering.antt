@@ -39,37 +39,37 @@ use Rattle.tiles.specs.Progress.{State, stateAt}
 use Rattle.tiles.specs.Setting.{render}
 use Rattle.tiles.proofs.Sound.{Sound}
 use Rattle.tiles.proofs.Closed.{render-shows}
-use Rattle.tile_blocks.specs.Setting.{cutOf, setting}
+use Rattle.tile_blocks.specs.ContractionInTiles.{cutOf, setting}
 use Rattle.tile_blocks.specs.Planned.{GridOf, PlanFits, placeD}
-use Rattle.tile_questions.specs.Questions.{sizeQuestion, roomQuestion, doneQuestion, acceptQuestions, tileQuestions}
-use Rattle.tiled.specs.Call.{ran, refused, TileCall, gave, ranCall, tileCall}
+use Rattle.tile_questions.specs.TileQuestions.{sizeQuestion, roomQuestion, doneQuestion, acceptQuestions, Accepted, tileQuestions}
+use Rattle.tiled.specs.TileCall.{ran, tileRefused, TileCall, tileCallOf, ranCall, tileCall}
 use Rattle.tiled.proofs.Accepted.{plan-asks, grid-asks, grid-cut}
-use Rattle.tiled.proofs.Answered.{same-questions, numbered, accepted}
+use Rattle.tiled.proofs.TileAnswered.{same-questions, numbered, accepted}
 use Rattle.tiled.proofs.Reaches.{reaches-d, clear}
 use Rattle.tiled.proofs.Soundness.{setting-same, sound}
-use Rattle.states.specs.Letters.{letterOf, outside, letters, LettersRight}
-use Rattle.states.specs.Placed.{Accepted, Placed, lettered, columnLetters}
+use Rattle.states.specs.StateLetters.{letterOf, outside, stateLetters, EveryLetterRight}
+use Rattle.states.specs.Placed.{Placed, lettered, columnLetters}
 
 -- ---- what the letters are
 
-pub letters-right : (c : Contraction) (z : Sizes) (w : Slices) (t : ℕ) → refusal (acceptQuestions c z w) ≡ 0 → LettersRight c z w t
-unfolding letters setting
+pub letters-right : EveryLetterRight
+unfolding stateLetters setting
 letters-right c z w t ok =
     let blank : List ℕ = tabulate (length (w D)) (λ k. outside) in
-    let yes = accepted c z w ok in
+    let yes = accepted c z w (ok .passed) in
     let safe : Sound (setting c z w) (length blank) = rw (length-tabulate (length (w D)) (λ k. outside)) (sound c z w (yes .0) (yes .1)) in
     let s = render-shows (setting c z w) blank safe (λ h i j was. letterOf (stateAt (cutOf c z) t h i j)) in
     record {
       one-each = s .len ∙ length-tabulate (length (w D)) (λ k. outside);
-      addressed = λ h i j bh bi bj. s .hit (h, i, j) (bh, bi, bj) tt;
-      others = λ x b off. s .miss x (λ q k p. off (q .0) (q .1) (q .2) (k .0) (k .1) (k .2)) ∙ getD-tabulate (length (w D)) (λ k. outside) x 0 b;
+      addressed = λ h i j b. s .hit (h, i, j) b tt;
+      others = λ x b off. s .miss x (λ q k p. off (q .0) (q .1) (q .2) k) ∙ getD-tabulate (length (w D)) (λ k. outside) x 0 b;
     }
 
 -- ---- of D's slice only the length is read
 
 module _ (c : Contraction) (z : Sizes) (a b d e : List ℕ) where
-  pub letters-same : (t : ℕ) → length d ≡ length e → letters c z (three a b d) t ≡ letters c z (three a b e) t
-  unfolding letters
+  pub letters-same : (t : ℕ) → length d ≡ length e → stateLetters c z (three a b d) t ≡ stateLetters c z (three a b e) t
+  unfolding stateLetters
   letters-same t same = λ x.
       render (setting-same c z (three a b d) (three a b e) refl refl x) (λ h i j was. letterOf (stateAt (cutOf c z) t h i j)) (tabulate (same x) (λ k. outside))
 
@@ -80,18 +80,18 @@ module _ (c : Contraction) (z : Sizes) (a b d e : List ℕ) where
 
 -- it was accepted
 module _ (c : Contraction) (z : Sizes) (w : Slices) (work : List ℕ) (t budget : ℕ) {r : ℕ} {full : Bool} {ds ws : List ℕ}
-    (e : gave (ran r full) ds ws ≡ tileCall c z w work t budget) where
+    (e : tileCallOf (ran r full) ds ws ≡ tileCall c z w work t budget) where
   abbrev number : ℕ
   number = refusal (tileQuestions c z w work t)
 
-  all-passed : (number ≡ 0) × (gave (ran r full) ds ws ≡ ranCall c z w work t budget)
+  all-passed : (number ≡ 0) × (tileCallOf (ran r full) ds ws ≡ ranCall c z w work t budget)
   unfolding tileCall
   all-passed = go (eqb number 0) (eqb-true number 0) e
     where
-      go : (x : Bool) → (x ≡ true → number ≡ 0) → gave (ran r full) ds ws ≡ cond x (ranCall c z w work t budget) (gave (refused number t) (w D) work)
-          → (number ≡ 0) × (gave (ran r full) ds ws ≡ ranCall c z w work t budget)
+      go : (x : Bool) → (x ≡ true → number ≡ 0) → tileCallOf (ran r full) ds ws ≡ cond x (ranCall c z w work t budget) (tileCallOf (tileRefused number t) (w D) work)
+          → (number ≡ 0) × (tileCallOf (ran r full) ds ws ≡ ranCall c z w work t budget)
       go true zero f = (zero refl, f)
-      go false zero f = let two : ran r full ≡ refused number t = ap (λ (x : TileCall). x .answer) f in let no : _≡_ {A = ℕ} 0 1 = cc in absurd (omega arith)
+      go false zero f = let two : ran r full ≡ tileRefused number t = ap (λ (x : TileCall). x .answer) f in let no : _≡_ {A = ℕ} 0 1 = cc in absurd (omega arith)
 
   pub ran-accepted : Accepted c z w
   unfolding tileQuestions
@@ -186,8 +186,8 @@ module _ (c : Contraction) (z : Sizes) (a b d : List ℕ) (ok : Accepted c z (th
       all-placed n e = rw (e, cut) (record { inside = clear c (λ o. length (three a b d o)) nine p q z .inD })
 
       pub all-lettered : (t n : ℕ) {blank out : List ℕ} → n ≡ length d → blank ≡ tabulate n (λ k. outside)
-          → out ≡ each (cutIn g .H) (columnLetters p (cutIn g) t) blank → out ≡ letters c z (three a b d) t
-      unfolding letters render setting
+          → out ≡ each (cutIn g .H) (columnLetters p (cutIn g) t) blank → out ≡ stateLetters c z (three a b d) t
+      unfolding stateLetters render setting
       all-lettered t n e f l =
           let words : Operand → ℕ = λ o. length (three a b d o) in
           l ∙ ap (each (cutIn g .H) (columnLetters p (cutIn g) t)) f

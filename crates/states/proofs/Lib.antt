@@ -1,1 +1,2 @@
+pub mod LetterCases
 pub mod Lettering

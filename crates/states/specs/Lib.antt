@@ -1,2 +1,3 @@
-pub mod Letters
+pub mod LetterCases
 pub mod Placed
+pub mod StateLetters

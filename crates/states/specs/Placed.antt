@@ -1,23 +1,13 @@
 -- The letters as the code puts them, by the address words of a plan. Inside contracts only.
 -- Assumes nothing.
 use Prim.Native.Nat.{ℕ, _<_}
-use mathlib.Core.Path.{_≡_}
 use mathlib.Core.List.{List}
 use Rattle.words.specs.Loops.{each, put}
-use Rattle.contraction.specs.declared.contraction.Contraction.{Contraction}
-use Rattle.questions.specs.Questions.{refusal}
-use Rattle.meaning.specs.Meaning.{Slices}
 use Rattle.plan.specs.declared.plan.Plan.{Plan}
-use Rattle.tiles.specs.declared.grid.Sizes.{Sizes}
 use Rattle.tiles.specs.Cut.{Cut}
 use Rattle.tiles.specs.Progress.{stateAt}
 use Rattle.tile_blocks.specs.Planned.{placeD}
-use Rattle.tile_questions.specs.Questions.{acceptQuestions}
-use Rattle.states.specs.Letters.{letterOf}
-
--- questions 1 to 10 pass: the contraction is accepted
-pub record Accepted (c : Contraction) (z : Sizes) (w : Slices) : Type 0 where
-  pub passed : refusal (acceptQuestions c z w) ≡ 0
+use Rattle.states.specs.StateLetters.{letterOf}
 
 module _ (p : Plan) (G : Cut) where
   -- each output index has its place in a slice of that many words

@@ -6,16 +6,17 @@ ghost use Rattle.words.specs.Lists.{tabulate};
 ghost use Rattle.contraction.specs.Operands.{three};
 ghost use Rattle.tiles.specs.Cut.{total};
 ghost use Rattle.tiles.specs.Grid.{cutIn, stateOf};
-ghost use Rattle.tile_blocks.specs.Setting.{cutOf};
+ghost use Rattle.tile_blocks.specs.ContractionInTiles.{cutOf};
 ghost use Rattle.tile_blocks.specs.Planned.{GridOf};
-ghost use Rattle.states.specs.Letters.{letterOf, letters, outside};
-ghost use Rattle.states.specs.Placed.{Placed, lettered, columnLetters, Accepted};
+ghost use Rattle.tile_questions.specs.TileQuestions.{Accepted};
+ghost use Rattle.states.specs.StateLetters.{letterOf, stateLetters, outside};
+ghost use Rattle.states.specs.Placed.{Placed, lettered, columnLetters};
 use contraction::contraction::Contraction;
 use contraction::contraction::Lengths;
 use offsets::offsets::Offsets;
 use plan::plan::Plan;
 use plan::plan::plan_of;
-use tile_blocks::grid::grid_of;
+use tile_blocks::plan_grid::grid_of;
 use tiles::grid::Grid;
 use tiles::grid::Sizes;
 use tiles::grid::State;
@@ -101,7 +102,8 @@ pub fn letters_after(
     out: &mut [u8],
 ) -> u64
     requires { ⌜ Accepted c z (three (now a) (now b) (now d)) × (length (now out) ≡ length (now d)) ⌝ }
-    ensures { λ r. ⌜ (r ≡ total (cutOf c z)) × (now (out .exit) ≡ letters c z (three (now (a .entry)) (now (b .entry)) (now (d .entry))) t) ⌝ }
+    ensures { λ r. ⌜ (r ≡ total (cutOf c z))
+        × (now (out .exit) ≡ stateLetters c z (three (now (a .entry)) (now (b .entry)) (now (d .entry))) t) ⌝ }
 {
     let n = Lengths {
         a: a.len(),

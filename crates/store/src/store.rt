@@ -35,8 +35,12 @@ pub fn store_column(
     sums: &[u32; Limits::BLOCK],
     f: Factors,
 )
-    requires { ⌜ (count ≤ blockLimit) × Stepped count (now offsets) (asStep step) × Within count (placeOf from (now offsets)) (length (now d)) ⌝ }
-    ensures { λ _. ⌜ now (d .exit) ≡ each count (λ r. put (addedTo f (getD (now (sums .entry)) r 0)) (placeOf from (now (offsets .entry)) r)) (now (d .entry)) ⌝ }
+    requires { ⌜ (count ≤ blockLimit)
+        × Stepped count (now offsets) (asStep step)
+        × Within count (placeOf from (now offsets)) (length (now d)) ⌝ }
+    ensures { λ _. ⌜ now (d .exit)
+        ≡ each count (λ r. put (addedTo f (getD (now (sums .entry)) r 0)) (placeOf from (now (offsets .entry)) r))
+        (now (d .entry)) ⌝ }
 {
     let mut at = std::num::wrapping_add_u64(from, offsets[0]);
     let mut r: usize = 0;

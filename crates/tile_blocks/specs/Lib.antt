@@ -1,3 +1,3 @@
 pub mod Planned
-pub mod Setting
+pub mod ContractionInTiles
 pub mod Side

@@ -16,15 +16,15 @@ use Rattle.offsets.specs.Offsets.{wordsIn}
 use Rattle.plan.specs.declared.plan.Plan.{Plan}
 use Rattle.plan.specs.Plan.{planned}
 use Rattle.scatter.specs.declared.blocks.Blocks.{Blocks}
-use Rattle.scatter.specs.Laid.{Blocked}
+use Rattle.scatter.specs.ScatterVectors.{Blocked}
 use Rattle.tiles.specs.declared.grid.Sizes.{Sizes}
 use Rattle.tiles.specs.declared.grid.Grid.{Grid}
 use Rattle.tiles.specs.Grid.{cutIn, Fits, Counted}
 use Rattle.tiles.specs.Cut.{Cut, width, batchOf, panelOf}
 use Rattle.tiles.specs.Setting.{Setting, settingBy}
-use Rattle.tile_blocks.specs.declared.stand.Stand.{Stand}
+use Rattle.tile_blocks.specs.declared.tile_offsets.TileOffsets.{TileOffsets}
 use Rattle.tile_blocks.specs.Side.{Side, left, right, both, tensorOn, groupOn, sizeOn, tileOn, blockOn}
-use Rattle.tile_blocks.specs.Setting.{cutGroups}
+use Rattle.tile_blocks.specs.ContractionInTiles.{cutGroups}
 
 module _ (p : Plan) where
   -- how far a count of a group moves in a tensor, as an address word
@@ -73,16 +73,17 @@ module _ (p : Plan) where
     pub foldable : (x : Group) → Foldable (labelsIn (planned p x))
     pub few : (x : Group) → planned p x .count ≤ axesLimit
 
-  -- the code's record of where tile n stands
-  abbrev pub startsIn : Stand → Operand → List ℕ
+  -- the code's record of tile n's offsets
+  abbrev pub startsIn : TileOffsets → Operand → List ℕ
   startsIn s = three (s .a) (s .b) (s .d)
 
-  abbrev pub blocksOn : Stand → Side → Blocks
+  abbrev pub blocksOn : TileOffsets → Side → Blocks
   blocksOn s = both (s .rows) (s .cols)
 
-  pub record Stands (G : Cut) (n : ℕ) (s : Stand) : Type 0 where
+  pub record TileOffsetsOf (G : Cut) (n : ℕ) (s : TileOffsets) : Type 0 where
     pub from : (o : Operand) → wordsIn (s .from) o ≡ atBatch (batchOf G n) o
-    pub blocks : (x : Side) → Blocked (labelsIn (planned p (groupOn x))) (blockOn G n x * tileOn G x) (width (sizeOn G x) (tileOn G x) (blockOn G n x)) (blocksOn s x)
+    pub blocks : (x : Side)
+        → Blocked (labelsIn (planned p (groupOn x))) (blockOn G n x * tileOn G x) (width (sizeOn G x) (tileOn G x) (blockOn G n x)) (blocksOn s x)
     pub filled : s .filled ≡ width (G .K) (G .depth) (panelOf G n)
     pub starts : (o : Operand) (k : ℕ) → k < s .filled → getD (startsIn s o) k 0 ≡ atDepth (batchOf G n) (panelOf G n * G .depth + k) o
     pub first : s .first ≡ eqb (panelOf G n) 0

@@ -1,1 +1,2 @@
+pub mod TileQuestionCases
 pub mod TileSizes

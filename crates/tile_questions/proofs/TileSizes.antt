@@ -9,7 +9,7 @@ use Rattle.words.proofs.Lists.{T-true}
 use Rattle.words.proofs.Sums.{and-split}
 use Rattle.limits.specs.Limits.{rowsLimit, colsLimit, depthLimit}
 use Rattle.tiles.specs.declared.grid.Sizes.{Sizes}
-use Rattle.tile_questions.specs.Questions.{within, sizesFit}
+use Rattle.tile_questions.specs.TileQuestions.{within, sizesFit}
 
 -- 1 up to a limit
 abbrev pub Limited : ℕ → ℕ → Type 0

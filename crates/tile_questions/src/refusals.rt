@@ -3,7 +3,7 @@ ghost use mathlib.Core.List.{_++_};
 ghost use Rattle.contraction.specs.Operands.{tensors, lengths};
 ghost use Rattle.questions.specs.Questions.{refusal, layoutQuestions};
 ghost use Rattle.tiles.specs.Grid.{cutIn, Counted};
-ghost use Rattle.tile_questions.specs.Questions.{within, sizesFit, sizeQuestion, roomQuestion, doneQuestion, indexQuestion};
+ghost use Rattle.tile_questions.specs.TileQuestions.{within, sizesFit, sizeQuestion, roomQuestion, doneQuestion, indexQuestion};
 use contraction::contraction::Contraction;
 use contraction::contraction::Lengths;
 use limits::limits::Limits;
@@ -46,11 +46,9 @@ pub fn tile_refusal(g: Grid, room: usize, done: u64) -> u32
     let rows = sizes.rows as usize;
     let cols = sizes.cols as usize;
     let depth = sizes.depth as usize;
-    ask(
-        11,
-        rows * depth + depth * cols <= room,
-        ask(12, done <= g.total, 0),
-    )
+    let enough = rows * depth + depth * cols <= room;
+    let counted = done <= g.total;
+    ask(11, enough, ask(12, counted, 0))
 }
 
 // Questions 12 and 13.

@@ -7,7 +7,7 @@ use lib.ListN.{length}
 use Rattle.contraction.specs.declared.contraction.Contraction.{Contraction}
 use Rattle.contraction.specs.Operands.{three, tensors, lengths}
 use Rattle.contraction.proofs.SliceLengths.{lengthsOf}
-use Rattle.questions.specs.Questions.{refusal, eachTensor, allLabels, entries, layoutQuestions}
+use Rattle.questions.specs.Questions.{refusal, tensorQuestions, labelQuestions, entryQuestions, layoutQuestions}
 use Rattle.questions.specs.Answers.{LayoutsPass}
 use Rattle.questions.proofs.Refusal.{refusal-both}
 use Rattle.plan.specs.declared.plan.Plan.{Plan}
@@ -15,10 +15,10 @@ use Rattle.plan.specs.Plan.{Planned}
 use Rattle.tiles.specs.declared.grid.Sizes.{Sizes}
 use Rattle.tiles.specs.declared.grid.Grid.{Grid}
 use Rattle.tiles.specs.Grid.{cutIn}
-use Rattle.tile_blocks.specs.Setting.{cutOf}
+use Rattle.tile_blocks.specs.ContractionInTiles.{cutOf}
 use Rattle.tile_blocks.specs.Planned.{planCut, GridOf, PlanFits}
-use Rattle.tile_questions.specs.Questions.{sizeQuestion, acceptQuestions}
-use Rattle.tiled.proofs.Answered.{asked, accepted}
+use Rattle.tile_questions.specs.TileQuestions.{sizeQuestion, acceptQuestions}
+use Rattle.tiled.proofs.TileAnswered.{asked, accepted}
 use Rattle.tiled.proofs.Reaches.{plan-cut, plan-fits}
 
 -- k is the number that `accept_refusal` answered
@@ -28,7 +28,7 @@ module _ (c : Contraction) (z : Sizes) (a b d : List ℕ) {k : ℕ} (e : k ≡ r
 
   -- what `plan_of` asks
   pub plan-asks : LayoutsPass (tensors c) (lengths (lengthsOf a b d))
-  unfolding layoutQuestions eachTensor allLabels entries
+  unfolding layoutQuestions tensorQuestions labelQuestions entryQuestions
   plan-asks = record { passed = refusal-both (layoutQuestions (tensors c) (lengths (lengthsOf a b d))) (sizeQuestion z) tt (sym e ∙ y) .0 }
 
   module _ (p : Plan) (q : Planned (tensors c) p) where

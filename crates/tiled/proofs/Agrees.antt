@@ -12,7 +12,7 @@ use Rattle.words.proofs.Tabulate.{tabulate-ext}
 use Rattle.contraction.specs.declared.contraction.Contraction.{Contraction}
 use Rattle.contraction.specs.Operands.{A, B, tensors}
 use Rattle.questions.proofs.Ready.{AllPassed}
-use Rattle.groups.specs.Groups.{Group, batch, row, column, depth, number}
+use Rattle.groups.specs.Groups.{Group, batch, row, column, depth, groupNumber}
 use Rattle.meaning.specs.Meaning.{Slices, shapeIn, entry}
 use Rattle.meaning.proofs.Lacks.{lacking, lacks, address-lacks}
 use Rattle.plan.specs.declared.plan.Plan.{Plan}
@@ -21,11 +21,11 @@ use Rattle.pack.proofs.Packing.{packed-ext}
 use Rattle.tiles.specs.declared.grid.Sizes.{Sizes}
 use Rattle.tiles.specs.Cut.{Cut, width, total, panelOf}
 use Rattle.tiles.specs.Setting.{walk, tilesFrom}
-use Rattle.tiles.proofs.Agree.{Agree, walk-agrees as walk-same}
+use Rattle.tiles.proofs.SettingsAgree.{Agree, walk-agrees as walk-same}
 use Rattle.tiles.proofs.Cuts.{place-in}
 use Rattle.tiles.proofs.Numbering.{tile-of}
 use Rattle.tile_blocks.specs.Side.{Side, left, right, both, tensorOn, sizeOn, tileOn, blockOn}
-use Rattle.tile_blocks.specs.Setting.{counts, cutOf, entryAt, setting}
+use Rattle.tile_blocks.specs.ContractionInTiles.{groupCounts, cutOf, entryAt, setting}
 use Rattle.tile_blocks.specs.Planned.{readIn, planSetting}
 use Rattle.tiling.specs.Work.{packedBlock, packed, packedLast, entryOn, workAfter}
 use Rattle.tiled.proofs.Reaches.{side-entry, reaches-d}
@@ -60,7 +60,7 @@ module _ (c : Contraction) (z : Sizes) (w : Slices) (ok : AllPassed (tensors c) 
   unfolding entryOn entryAt entry
   any-other s h i j k = ap (λ (x : ℕ). getD (w (tensorOn s)) x 0) (address-lacks (tensors c) (tensorOn s) _ (lacks (shapeIn c) (tensorOn s)) _ _ (same s))
     where
-      same : (s : Side) (g : Group) → number g ≢ number (lacking (tensorOn s)) → counts h (both (both i j s) 0 s) (both 0 (both i j s) s) k g ≡ counts h i j k g
+      same : (s : Side) (g : Group) → groupNumber g ≢ groupNumber (lacking (tensorOn s)) → groupCounts h (both (both i j s) 0 s) (both 0 (both i j s) s) k g ≡ groupCounts h i j k g
       same s batch d = refl
       same s depth d = refl
       same left row d = refl

@@ -1,7 +1,7 @@
 pub mod Accepted
 pub mod Agrees
-pub mod Answered
-pub mod Demands
+pub mod TileAnswered
+pub mod Demand3
 pub mod Following
 pub mod Reaches
 pub mod Soundness

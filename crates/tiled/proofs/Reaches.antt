@@ -12,7 +12,7 @@ use Rattle.words.specs.Words.{word, wordOf}
 use Rattle.words.proofs.Modular.{word-add-left, word-add-right}
 use Rattle.limits.specs.Limits.{productLimit}
 use Rattle.layout.specs.Layout.{address}
-use Rattle.points.specs.Questions.{points, pointsFit}
+use Rattle.points.specs.LabelQuestions.{points, pointsFit}
 use Rattle.contraction.specs.declared.contraction.Contraction.{Contraction}
 use Rattle.contraction.specs.Operands.{Operand, A, B, D, tensors, together}
 use Rattle.questions.proofs.Ready.{AllPassed}
@@ -25,14 +25,14 @@ use Rattle.meaning.specs.Index.{index}
 use Rattle.meaning.specs.Meaning.{shapeIn}
 use Rattle.plan.specs.declared.plan.Plan.{Plan}
 use Rattle.plan.specs.Plan.{Planned, planned}
-use Rattle.plan.proofs.Foldable.{group-foldable, fold-foldable}
+use Rattle.plan.proofs.GroupsFoldable.{group-foldable, fold-foldable}
 use Rattle.plan.proofs.GroupSizes.{group-sizes, group-size-pos}
 use Rattle.plan.proofs.Reached.{index-inside, reached-index}
 use Rattle.tiles.specs.declared.grid.Sizes.{Sizes}
 use Rattle.tile_blocks.specs.Side.{Side, left, right, both, tensorOn, groupOn, sizeOn}
-use Rattle.tile_blocks.specs.Setting.{counts, cutOf, addressAt}
+use Rattle.tile_blocks.specs.ContractionInTiles.{groupCounts, cutOf, addressAt}
 use Rattle.tile_blocks.specs.Planned.{placeIn, placeD, planCut, Clear, PlanFits}
-use Rattle.tile_questions.specs.Questions.{sizesFit}
+use Rattle.tile_questions.specs.TileQuestions.{sizesFit}
 use Rattle.tile_questions.proofs.TileSizes.{sizes-limited}
 
 -- count 0 moves nowhere
@@ -95,7 +95,7 @@ module _ (c : Contraction) (n : Operand → ℕ) (ok : AllPassed (tensors c) n) 
 
   module _ (h i j k : ℕ) (bh : h < size (group (shapeIn c) batch)) (bi : i < size (group (shapeIn c) row)) (bj : j < size (group (shapeIn c) column))
       (bk : k < size (group (shapeIn c) depth)) where
-    below : (g : Group) → counts h i j k g < size (group (shapeIn c) g)
+    below : (g : Group) → groupCounts h i j k g < size (group (shapeIn c) g)
     below batch = bh
     below row = bi
     below column = bj
@@ -105,26 +105,26 @@ module _ (c : Contraction) (n : Operand → ℕ) (ok : AllPassed (tensors c) n) 
     reached : (o : Operand) {x y : ℕ} → y ≡ word 64 x
         → x ≡ wordsIn (p .base) o + offsetIn (wordOf 64) o (labelsIn (planned p batch)) h + offsetIn (wordOf 64) o (labelsIn (planned p row)) i
         + offsetIn (wordOf 64) o (labelsIn (planned p column)) j + offsetIn (wordOf 64) o (labelsIn (planned p depth)) k
-        → Entry o y (counts h i j k)
+        → Entry o y (groupCounts h i j k)
     unfolding group
     reached o {x} {y} w e =
-        let is : y ≡ address (tensors c o) (index (shapeIn c) (counts h i j k)) =
+        let is : y ≡ address (tensors c o) (index (shapeIn c) (groupCounts h i j k)) =
         w ∙ ap (word 64) (omega (arith, rw (q .bases o, q .groups batch, q .groups row, q .groups column, q .groups depth) at e))
-        ∙ reached-index (tensors c) n ok (counts h i j k) below o in
-        record { is = is; inside = rw is (index-inside (tensors c) n ok (counts h i j k) below o .1) }
+        ∙ reached-index (tensors c) n ok (groupCounts h i j k) below o in
+        record { is = is; inside = rw is (index-inside (tensors c) n ok (groupCounts h i j k) below o .1) }
 
   -- the offset of count 0 of a group in a tensor
   zero-offset : (o : Operand) (g : Group) → offsetIn (wordOf 64) o (labelsIn (planned p g)) 0 ≡ 0
   zero-offset o g = offset-zero _ (labelsIn (planned p g))
 
   pub side-entry : (s : Side) (h m k : ℕ) → h < size (group (shapeIn c) batch) → m < size (group (shapeIn c) (groupOn s)) → k < size (group (shapeIn c) depth)
-      → Entry (tensorOn s) (placeIn p s h m k) (counts h (both m 0 s) (both 0 m s) k)
+      → Entry (tensorOn s) (placeIn p s h m k) (groupCounts h (both m 0 s) (both 0 m s) k)
   unfolding placeIn
   side-entry left h m k bh bm bk = reached h m 0 k bh bm (size-pos column) bk A (steps-whole _ _ _ _) (omega (arith, zero-offset A column))
   side-entry right h m k bh bm bk = reached h 0 m k bh (size-pos row) bm bk B (steps-whole _ _ _ _) (omega (arith, zero-offset B row))
 
   output-entry : (h i j : ℕ) → h < size (group (shapeIn c) batch) → i < size (group (shapeIn c) row) → j < size (group (shapeIn c) column)
-      → Entry D (placeD p h i j) (counts h i j 0)
+      → Entry D (placeD p h i j) (groupCounts h i j 0)
   unfolding placeD
   output-entry h i j bh bi bj = reached h i j 0 bh bi bj (size-pos depth) D (steps _ _ _ _) (omega (arith, zero-offset D depth))
 

@@ -20,8 +20,8 @@ use Rattle.questions.proofs.Ready.{AllPassed}
 use Rattle.groups.specs.Groups.{letters, batch, row, column, inGroup, group}
 use Rattle.meaning.specs.Index.{index}
 use Rattle.meaning.specs.Meaning.{Slices, shapeIn, entry, result}
-use Rattle.meaning.proofs.Counts.{outGroups, out-groups, index-outputs}
-use Rattle.meaning.proofs.Parts.{Part, Below, covered, partsAt, atParts, parts-in-range}
+use Rattle.meaning.proofs.EngineIndices.{outGroups, out-groups, index-outputs}
+use Rattle.meaning.proofs.IndexParts.{Part, Below, covered, partsAt, atParts, parts-in-range}
 use Rattle.meaning.proofs.Onto.{parts-onto}
 use Rattle.meaning.proofs.Result.{parts-apart, length-result, term, value-counts}
 use Rattle.meaning.proofs.Values.{result-in-range, result-elsewhere}
@@ -30,8 +30,8 @@ use Rattle.tiles.specs.Cut.{Cut, total}
 use Rattle.tiles.specs.Setting.{settingBy, closed}
 use Rattle.tiles.proofs.Sound.{Sound, direct}
 use Rattle.tiles.proofs.Closed.{shows-render, closed-total}
-use Rattle.tile_blocks.specs.Setting.{counts, cutOf, addressAt, entryAt, setting}
-use Rattle.tile_questions.specs.Questions.{sizesFit}
+use Rattle.tile_blocks.specs.ContractionInTiles.{groupCounts, cutOf, addressAt, entryAt, setting}
+use Rattle.tile_questions.specs.TileQuestions.{sizesFit}
 use Rattle.tile_questions.proofs.TileSizes.{sizes-limited}
 
 -- the setting reads A and B only
@@ -40,12 +40,12 @@ unfolding setting entryAt entry
 setting-same c z v w e f = λ x. settingBy (cutOf c z) (addressAt c) (at A (e x)) (at B (f x)) (c .alpha) (c .beta)
   where
     at : Operand → List ℕ → ℕ → ℕ → ℕ → ℕ → ℕ
-    at o words h i j k = getD words (address (tensors c o) (index (shapeIn c) (counts h i j k))) 0
+    at o words h i j k = getD words (address (tensors c o) (index (shapeIn c) (groupCounts h i j k))) 0
 
 module _ (c : Contraction) where
   -- the batch, row and column labels at their counts, and the index of these
   parts : ℕ → ℕ → ℕ → List Part
-  parts h i j = partsAt (inGroup (shapeIn c)) (counts h i j 0) outGroups
+  parts h i j = partsAt (inGroup (shapeIn c)) (groupCounts h i j 0) outGroups
 
   at : ℕ → ℕ → ℕ → ℕ → ℕ
   at h i j = atParts (shapeIn c) (parts h i j)
@@ -53,11 +53,11 @@ module _ (c : Contraction) where
   -- it addresses what the four counts address
   address-at : (h i j : ℕ) → addressAt c h i j ≡ address (tensors c D) (at h i j)
   unfolding addressAt at parts
-  address-at h i j = index-outputs (tensors c) (counts h i j 0)
+  address-at h i j = index-outputs (tensors c) (groupCounts h i j 0)
 
   parts-cover : (h i j x : ℕ) → member x (letters (shapeIn c) D) ≡ true → covered x (parts h i j) ≡ true
   unfolding parts
-  parts-cover h i j x e = out-groups (shapeIn c) .covers (counts h i j 0) x ∙ e
+  parts-cover h i j x e = out-groups (shapeIn c) .covers (groupCounts h i j 0) x ∙ e
 
 module _ (c : Contraction) (z : Sizes) (w : Slices) (ok : AllPassed (tensors c) (λ o. length (w o))) (fit : sizesFit z ≡ true) where
   open Cut (cutOf c z) using (H, M, N, K)
@@ -79,7 +79,7 @@ module _ (c : Contraction) (z : Sizes) (w : Slices) (ok : AllPassed (tensors c) 
   unfolding at parts
   apart h i j h′ i′ j′ bh bi bj bh′ bi′ bj′ e =
       let r = parts-apart (tensors c) (length (w D)) (rw (ok .agree) tt) (rw (ok .within D) tt) (rw (ok .distinct) tt)
-      (inGroup (shapeIn c)) outGroups (out-groups (shapeIn c)) (counts h i j 0) (counts h′ i′ j′ 0) (parts-below h i j bh bi bj) (parts-below h′ i′ j′ bh′ bi′ bj′)
+      (inGroup (shapeIn c)) outGroups (out-groups (shapeIn c)) (groupCounts h i j 0) (groupCounts h′ i′ j′ 0) (parts-below h i j bh bi bj) (parts-below h′ i′ j′ bh′ bi′ bj′)
       (sym (address-at c h i j) ∙ e ∙ address-at c h′ i′ j′) in
       (r .0, r .1 .0, r .1 .1 .0)
 

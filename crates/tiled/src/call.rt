@@ -2,17 +2,17 @@ ghost use mathlib.Core.Path.{_≡_};
 ghost use Prim.Native.Nat.{min};
 ghost use Rattle.contraction.specs.Operands.{three};
 ghost use Rattle.tiles.specs.Grid.{stateOf};
-ghost use Rattle.tiled.specs.Call.{is, tileAnswer, stateAnswer, gave, tileCall, stateCall};
+ghost use Rattle.tiled.specs.TileCall.{is, tileAnswer, stateAnswer, tileCallOf, tileCall, stateCall};
 use contraction::contraction::Contraction;
 use contraction::contraction::Lengths;
 use plan::plan::plan_of;
-use tile_blocks::grid::grid_of;
+use tile_blocks::plan_grid::grid_of;
 use tile_questions::refusals::accept_refusal;
 use tile_questions::refusals::state_refusal;
 use tile_questions::refusals::tile_refusal;
 use tiles::grid::Sizes;
 use tiles::grid::State;
-use tiling::run::run_tiles;
+use tiling::run_tiles::run_tiles;
 
 // What a tile call answers: the new count of tiles done and whether that is the total, or the number of the question that refused and the count as given.
 pub enum Outcome {
@@ -56,7 +56,8 @@ pub fn run(
     done: u64,
     budget: u64,
 ) -> Outcome
-    ensures { λ r. ⌜ gave (tileAnswer r) (now (d .exit)) (now (work .exit)) ≡ tileCall c z (three (now (a .entry)) (now (b .entry)) (now (d .entry))) (now (work .entry)) done budget ⌝ }
+    ensures { λ r. ⌜ tileCallOf (tileAnswer r) (now (d .exit)) (now (work .exit))
+        ≡ tileCall c z (three (now (a .entry)) (now (b .entry)) (now (d .entry))) (now (work .entry)) done budget ⌝ }
 {
     let n = Lengths {
         a: a.len(),

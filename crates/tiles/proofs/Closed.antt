@@ -14,7 +14,7 @@ use lib.ListN.{length, getD}
 use Rattle.words.specs.Loops.{each, put}
 use Rattle.words.proofs.Tabulate.{tabulate-suc}
 use Rattle.words.proofs.Store.{length-put, length-each, Changes, changes-iff, changes-same, changes-unique, put-changes, each-changes, over-changes}
-use Rattle.tiles.specs.Cut.{Cut, width, MB, NB, KB, total, number, batchOf, columnOf, panelOf, rowOf}
+use Rattle.tiles.specs.Cut.{Cut, width, MB, NB, KB, total, tileNumber, batchOf, columnOf, panelOf, rowOf}
 use Rattle.tiles.specs.Setting.{Setting, wordAt, render, closed, addPanel, tileAt, tileStep, walk, tilesFrom}
 use Rattle.tiles.proofs.Sound.{Sound, direct}
 use Rattle.tiles.proofs.Cuts.{block-lt, place-lt, place-eq, block-of, place-in}
@@ -245,7 +245,7 @@ module _ (S : Setting) (D : List ℕ) (ok : Sound S (length D)) where
       p = panelOf cut t
 
       is-t : tile cut (q .0) (q .1) (q .2) p ≡ t
-      is-t = (λ k. number cut (e .0 k) (e .2 k) p (e .1 k)) ∙ number-of cut t
+      is-t = (λ k. tileNumber cut (e .0 k) (e .2 k) p (e .1 k)) ∙ number-of cut t
 
       now : Reached cut (q .0) (q .1) (q .2) t p
       now = subst (λ (n : ℕ). Reached cut (q .0) (q .1) (q .2) n p) is-t (reached-here cut (q .0) (q .1) (q .2) (in-row q i) p (tile-of cut t b .panel))

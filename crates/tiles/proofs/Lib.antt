@@ -1,9 +1,10 @@
-pub mod Agree
 pub mod Closed
 pub mod Cuts
 pub mod Numbering
 pub mod PanelWords
 pub mod Progress
+pub mod SettingsAgree
 pub mod Sizes
 pub mod Sound
 pub mod States
+pub mod TileCases

@@ -6,7 +6,7 @@ use Prim.Native.Nat.{ℕ, zero, suc, _+_, _*_, _/_, _%_, _<_, _≤_}
 use native.Mathlib.Nat.{mul-zero, not-suc-le-zero, zero-lt-suc, div-lt-iff-lt-mul, mod-lt, div-add-mod', mul-le-mul-right, le-max-left}
 use native.Mathlib.Omega.{arith}
 use lib.Arith.{digits-lt, digits-div, digits-mod}
-use Rattle.tiles.specs.Cut.{Cut, MB, NB, KB, total, number, batchOf, columnOf, panelOf, rowOf}
+use Rattle.tiles.specs.Cut.{Cut, MB, NB, KB, total, tileNumber, batchOf, columnOf, panelOf, rowOf}
 
 -- a number below a * b, by its two digits
 digit-ranges : (n a b : ℕ) → n < a * b → (n / b < a) × (n % b < b)
@@ -27,28 +27,28 @@ module _ (G : Cut) where
   unfolding KB
   KB-pos = le-max-left 1 _
 
-  pub number-lt : {h c p r : ℕ} → InTiles h c p r → number G h c p r < total G
-  unfolding number total
+  pub number-lt : {h c p r : ℕ} → InTiles h c p r → tileNumber G h c p r < total G
+  unfolding tileNumber total
   number-lt v = digits-lt (digits-lt (digits-lt (v .batch) (v .column)) (v .panel)) (v .row)
 
   -- ---- the tile of a tile's number
 
-  pub row-number : (h c p : ℕ) {r : ℕ} → r < MB G → rowOf G (number G h c p r) ≡ r
-  unfolding number rowOf
+  pub row-number : (h c p : ℕ) {r : ℕ} → r < MB G → rowOf G (tileNumber G h c p r) ≡ r
+  unfolding tileNumber rowOf
   row-number h c p b = digits-mod _ b
 
-  pub column-number : (h : ℕ) {c p r : ℕ} → c < NB G → p < KB G → r < MB G → columnOf G (number G h c p r) ≡ c
-  unfolding number columnOf
+  pub column-number : (h : ℕ) {c p r : ℕ} → c < NB G → p < KB G → r < MB G → columnOf G (tileNumber G h c p r) ≡ c
+  unfolding tileNumber columnOf
   column-number h bc bp b = ap (λ (x : ℕ). x / KB G % NB G) (digits-div _ b) ∙ ap (λ (x : ℕ). x % NB G) (digits-div _ bp) ∙ digits-mod _ bc
 
-  pub batch-number : (h : ℕ) {c p r : ℕ} → c < NB G → p < KB G → r < MB G → batchOf G (number G h c p r) ≡ h
-  unfolding number batchOf
+  pub batch-number : (h : ℕ) {c p r : ℕ} → c < NB G → p < KB G → r < MB G → batchOf G (tileNumber G h c p r) ≡ h
+  unfolding tileNumber batchOf
   batch-number h bc bp b = ap (λ (x : ℕ). x / KB G / NB G) (digits-div _ b) ∙ ap (λ (x : ℕ). x / NB G) (digits-div _ bp) ∙ digits-div _ bc
 
   -- ---- the number of a number's tile
 
-  pub number-of : (n : ℕ) → number G (batchOf G n) (columnOf G n) (panelOf G n) (rowOf G n) ≡ n
-  unfolding number batchOf columnOf panelOf rowOf
+  pub number-of : (n : ℕ) → tileNumber G (batchOf G n) (columnOf G n) (panelOf G n) (rowOf G n) ≡ n
+  unfolding tileNumber batchOf columnOf panelOf rowOf
   number-of n =
       ap (λ (x : ℕ). (x * KB G + n / MB G % KB G) * MB G + n % MB G) (div-add-mod' (n / MB G / KB G) (NB G))
       ∙ ap (λ (x : ℕ). x * MB G + n % MB G) (div-add-mod' (n / MB G) (KB G))
@@ -64,10 +64,10 @@ module _ (G : Cut) where
 
   -- ---- of one word, the panels follow one another
 
-  pub number-mono : (h c r : ℕ) {p q : ℕ} → p ≤ q → number G h c p r ≤ number G h c q r
-  unfolding number
+  pub number-mono : (h c r : ℕ) {p q : ℕ} → p ≤ q → tileNumber G h c p r ≤ tileNumber G h c q r
+  unfolding tileNumber
   number-mono h c r b = omega (arith, mul-le-mul-right (MB G) b)
 
-  pub number-strict : (h c : ℕ) {p q r : ℕ} → r < MB G → p < q → number G h c p r < number G h c q r
-  unfolding number
+  pub number-strict : (h c : ℕ) {p q r : ℕ} → r < MB G → p < q → tileNumber G h c p r < tileNumber G h c q r
+  unfolding tileNumber
   number-strict h c k b = omega (arith, mul-le-mul-right (MB G) b)

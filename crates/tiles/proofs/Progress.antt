@@ -12,7 +12,7 @@ use native.Mathlib.Omega.{arith}
 use lib.Dec.{ltb, eqb}
 use borrow.Author.Tests.{ltb-true, lt-ltb, le-ltb, eq-eqb, ne-eqb}
 use Rattle.words.proofs.Sums.{sumTo-ext}
-use Rattle.tiles.specs.Cut.{Cut, MB, NB, KB, total, number}
+use Rattle.tiles.specs.Cut.{Cut, MB, NB, KB, total, tileNumber}
 use Rattle.tiles.specs.Progress.{State, old, part, final, done, doneCount, stateAt}
 use Rattle.tiles.proofs.Cuts.{sumTo-below, sumTo-ones}
 use Rattle.tiles.proofs.Numbering.{KB-pos, number-lt, number-mono, number-strict}
@@ -58,7 +58,7 @@ module _ (G : Cut) (h i j : ℕ) where
 
   -- the number of the tile that brings panel p to the word
   abbrev pub tile : ℕ → ℕ
-  tile p = number G h (j / cols) p (i / rows)
+  tile p = tileNumber G h (j / cols) p (i / rows)
 
   -- after t tiles the first q panels have reached the word, and no other
   pub record Reached (t q : ℕ) : Type 0 where

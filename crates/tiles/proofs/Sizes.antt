@@ -73,9 +73,9 @@ module _ {G : Cut} (f : Fits G) where
   pub strips-small : H * NB G * KB G ≤ productLimit
   strips-small = le-trans (mul-le-mul (mul-le-mul (le-max-right 1 H) NB-le) KB-le) (parts .4)
 
-  pub total-small : total G ≤ productLimit
+  pub sumOf-small : total G ≤ productLimit
   unfolding total
-  total-small =
+  sumOf-small =
       let x : H * NB G * KB G * MB G ≤ max 1 H * max 1 N * max 1 K * max 1 M = mul-le-mul (mul-le-mul (mul-le-mul (le-max-right 1 H) NB-le) KB-le) MB-le in
       omega (arith, f .points)
 
@@ -86,7 +86,7 @@ module _ {G : Cut} (f : Fits G) where
   number-small v =
       let x = digits-lt (v .batch) (v .column) in
       let y = digits-lt x (v .panel) in
-      (lt-of-lt-of-le x columns-small, lt-of-lt-of-le y strips-small, lt-of-lt-of-le (digits-lt y (v .row)) total-small)
+      (lt-of-lt-of-le x columns-small, lt-of-lt-of-le y strips-small, lt-of-lt-of-le (digits-lt y (v .row)) sumOf-small)
 
   -- the tile of a number begins in its groups
   pub tile-in : {n : ℕ} → n < total G

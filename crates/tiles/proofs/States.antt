@@ -9,7 +9,7 @@ use native.Mathlib.Nat.{lt-of-lt-of-le, le-refl}
 use native.Mathlib.Omega.{arith}
 use lib.Dec.{eqb}
 use borrow.Author.Tests.{ltb-true, ltb-false, eqb-true, lt-ltb, le-ltb, ne-eqb}
-use Rattle.tiles.specs.Cut.{Cut, KB, number}
+use Rattle.tiles.specs.Cut.{Cut, KB, tileNumber}
 use Rattle.tiles.specs.Progress.{old, part, final, done, stateAt}
 use Rattle.tiles.proofs.Numbering.{KB-pos}
 use Rattle.tiles.proofs.Progress.{tile, Reached, stateBy, reached, reached-state, reached-before, reached-after, state-none, state-all}
@@ -39,13 +39,13 @@ module _ (G : Cut) (h i j : ℕ) where
 
   -- ---- by two comparisons
 
-  pub state-old : {t : ℕ} → t ≤ number G h (j / cols) 0 (i / rows) → stateAt G t h i j ≡ old
+  pub state-old : {t : ℕ} → t ≤ tileNumber G h (j / cols) 0 (i / rows) → stateAt G t h i j ≡ old
   state-old b = reached-state G h i j (reached-before G h i j b) ∙ state-none G
 
-  pub state-final : {t : ℕ} → number G h (j / cols) (KB G - 1) (i / rows) < t → stateAt G t h i j ≡ final
+  pub state-final : {t : ℕ} → tileNumber G h (j / cols) (KB G - 1) (i / rows) < t → stateAt G t h i j ≡ final
   state-final b = reached-state G h i j (reached-after G h i j b) ∙ state-all G
 
-  pub state-part : {t : ℕ} → number G h (j / cols) 0 (i / rows) < t → t ≤ number G h (j / cols) (KB G - 1) (i / rows) → stateAt G t h i j ≡ part
+  pub state-part : {t : ℕ} → tileNumber G h (j / cols) 0 (i / rows) < t → t ≤ tileNumber G h (j / cols) (KB G - 1) (i / rows) → stateAt G t h i j ≡ part
   unfolding stateBy done
   state-part {t} a b =
       let w = reached G h i j t in

@@ -1,6 +1,6 @@
 -- How the counts of a contraction's groups are cut into tiles, and the tiles' numbers.
 -- Assumes nothing.
-use Prim.Native.Nat.{ℕ, _+_, _-_, _*_, _/_, _%_, min, max}
+use Prim.Native.Nat.{ℕ, _+_, _-_, _*_, _/_, _%_, _<_, min, max}
 use Rattle.tiles.specs.declared.grid.Counts.{Counts}
 use Rattle.tiles.specs.declared.grid.Sizes.{Sizes}
 
@@ -28,6 +28,10 @@ cutBy n z = record { H = n .batch; M = n .row; N = n .column; K = n .depth; rows
 module _ (G : Cut) where
   open Cut G using (H, M, N, K, rows, cols, depth)
 
+  -- counts of an output index: each is below its group's size
+  abbrev pub InSizes : ℕ → ℕ → ℕ → Type 0
+  InSizes h i j = (h < H) × (i < M) × (j < N)
+
   -- row blocks, column blocks and panels; depth size 0 is one panel, with no terms
   unfoldable pub MB : ℕ
   MB = blocks M rows
@@ -43,8 +47,8 @@ module _ (G : Cut) where
   total = H * NB * KB * MB
 
   -- the tile of batch count h, column block c, panel p and row block r has this number
-  unfoldable pub number : ℕ → ℕ → ℕ → ℕ → ℕ
-  number h c p r = ((h * NB + c) * KB + p) * MB + r
+  unfoldable pub tileNumber : ℕ → ℕ → ℕ → ℕ → ℕ
+  tileNumber h c p r = ((h * NB + c) * KB + p) * MB + r
 
   -- and the tile of number n has these
   unfoldable pub batchOf : ℕ → ℕ

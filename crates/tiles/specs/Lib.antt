@@ -2,3 +2,4 @@ pub mod Cut
 pub mod Grid
 pub mod Progress
 pub mod Setting
+pub mod TileCases

@@ -4,7 +4,7 @@ use Prim.Native.Nat.{ℕ, _/_}
 use mathlib.Core.Bool.{Bool, cond}
 use lib.Dec.{ltb, eqb}
 use Rattle.words.specs.Sums.{sumTo}
-use Rattle.tiles.specs.Cut.{Cut, KB, number}
+use Rattle.tiles.specs.Cut.{Cut, KB, tileNumber}
 
 -- old: no panel is done; final: all are; else part
 pub data State : Type 0 where
@@ -15,7 +15,7 @@ module _ (G : Cut) (t h i j : ℕ) where
 
   -- has panel p reached the word?
   unfoldable pub done : ℕ → Bool
-  done p = ltb (number G h (j / cols) p (i / rows)) t
+  done p = ltb (tileNumber G h (j / cols) p (i / rows)) t
 
   unfoldable pub doneCount : ℕ
   doneCount = sumTo (KB G) (λ p. cond (done p) 1 0)

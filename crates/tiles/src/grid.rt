@@ -1,6 +1,6 @@
 ghost use mathlib.Core.Path.{_≡_};
 ghost use Prim.Native.Nat.{_+_, _*_, _^_, _<_, _≤_};
-ghost use Rattle.tiles.specs.Cut.{blocks, width, cutBy, MB, NB, KB, total, number};
+ghost use Rattle.tiles.specs.Cut.{blocks, width, cutBy, MB, NB, KB, total, tileNumber};
 ghost use Rattle.tiles.specs.Progress.{stateAt};
 ghost use Rattle.tiles.specs.Grid.{cutIn, Fits, Counted, TileOf, stateOf};
 
@@ -105,7 +105,7 @@ impl Grid {
     // The number of a tile.
     fn number(self, h: u64, c: u64, p: u64, r: u64) -> u64
         requires { ⌜ Counted self × (h < cutIn self .H) × (c < NB (cutIn self)) × (p < KB (cutIn self)) × (r < MB (cutIn self)) ⌝ }
-        ensures { λ n. ⌜ n ≡ number (cutIn self) h c p r ⌝ }
+        ensures { λ n. ⌜ n ≡ tileNumber (cutIn self) h c p r ⌝ }
     {
         let rows = self.row_blocks as u64;
         let panels = self.panels as u64;

@@ -1,2 +1,3 @@
 pub mod PackedWork
 pub mod TileSteps
+pub mod WorkCases

@@ -22,24 +22,24 @@ use Rattle.plan.specs.declared.plan.Plan.{Plan}
 use Rattle.block.specs.declared.block.Block.{Block}
 use Rattle.block.specs.Places.{placeOf, asStep, Stepped}
 use Rattle.scatter.specs.declared.blocks.Blocks.{Blocks}
-use Rattle.scatter.specs.Laid.{blocksIn, Blocked}
-use Rattle.pack.specs.Needs.{PlacesAt}
+use Rattle.scatter.specs.ScatterVectors.{blocksIn, Blocked}
+use Rattle.pack.specs.PackNeeds.{PlacesAt}
 use Rattle.pack.specs.Packed.{packedWord}
 use Rattle.pack.proofs.Packing.{packed-ext}
 use Rattle.kernel.specs.Kernel.{columnSum}
 use Rattle.store.specs.declared.store.Factors.{Factors}
 use Rattle.store.specs.Added.{addedTo}
 use Rattle.multiply.specs.declared.multiply.Packing.{Packing}
-use Rattle.multiply.specs.Needs.{PlacesIn}
+use Rattle.multiply.specs.MultiplyNeeds.{PlacesIn}
 use Rattle.multiply.specs.Stored.{tileSum}
 use Rattle.tiles.specs.Cut.{Cut, width, total, batchOf, columnOf, panelOf, rowOf}
 use Rattle.tiles.specs.Grid.{Fits}
 use Rattle.tiles.specs.Setting.{Setting, panelSum, addPanel, tileAt, tileStep}
 use Rattle.tiles.proofs.Cuts.{width-le, place-in, panel-width}
 use Rattle.tiles.proofs.Sizes.{tile-in}
-use Rattle.tile_blocks.specs.declared.stand.Stand.{Stand}
+use Rattle.tile_blocks.specs.declared.tile_offsets.TileOffsets.{TileOffsets}
 use Rattle.tile_blocks.specs.Side.{Side, left, right, both, tensorOn, sizeOn, tileOn, blockOn}
-use Rattle.tile_blocks.specs.Planned.{placeIn, placeD, readIn, planSetting, Clear, startsIn, blocksOn, Stands}
+use Rattle.tile_blocks.specs.Planned.{placeIn, placeD, readIn, planSetting, Clear, startsIn, blocksOn, TileOffsetsOf}
 use Rattle.tiling.specs.Work.{packedBlock, packed}
 use Rattle.tiling.proofs.PackedWork.{two-fronts, part-room, packs, packed-entry}
 
@@ -48,7 +48,7 @@ pub stepped : {labels : List Label} {first count : ℕ} {bs : Blocks} → Blocke
     → Stepped (blocksIn bs o .count) (blocksIn bs o .offsets) (asStep (blocksIn bs o .step))
 stepped r o = rw (r .used o) (r .step o)
 
-module _ {p : Plan} {G : Cut} {n : ℕ} {s : Stand} (t : Stands p G n s) where
+module _ {p : Plan} {G : Cut} {n : ℕ} {s : TileOffsets} (t : TileOffsetsOf p G n s) where
   -- ---- the tile's places
 
   -- the block of a side's own tensor

@@ -12,7 +12,7 @@ use Rattle.pack.specs.Packed.{packedWord}
 use Rattle.tiles.specs.declared.grid.Sizes.{Sizes}
 use Rattle.tiles.specs.Cut.{Cut, width, batchOf, panelOf}
 use Rattle.tile_blocks.specs.Side.{Side, left, right, both, tensorOn, sizeOn, tileOn, blockOn}
-use Rattle.tile_blocks.specs.Setting.{cutOf, entryAt}
+use Rattle.tile_blocks.specs.ContractionInTiles.{cutOf, entryAt}
 
 module _ (G : Cut) (entry : Side → ℕ → ℕ → ℕ → ℕ) where
   open Cut G using (K, rows, cols, depth)

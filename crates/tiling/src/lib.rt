@@ -1,3 +1,3 @@
 // One tile, and tiles one after the other.
-pub mod run;
+pub mod run_tiles;
 pub mod tile;

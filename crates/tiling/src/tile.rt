@@ -11,7 +11,7 @@ use multiply::multiply::multiply;
 use pack::pack::pack;
 use plan::plan::Plan;
 use store::store::Factors;
-use tile_blocks::stand::Stand;
+use tile_blocks::tile_offsets::TileOffsets;
 use tiles::grid::Grid;
 
 // One tile, in three phases: A's block is packed, B's block is packed right after it, and their product goes to D.
@@ -26,10 +26,15 @@ pub fn run_tile(
     work: &mut [u32],
     n: u64,
 )
-    requires { ⌜ GridOf p g × (n < total (cutIn g)) × Clear p (cutIn g) (length (now a)) (length (now b)) (length (now d)) × (g .sizes .rows * g .sizes .depth + g .sizes .cols * g .sizes .depth ≤ length (now work)) ⌝ }
-    ensures { λ _. ⌜ (now (d .exit) ≡ tileStep (planSetting p (cutIn g) alpha beta (now (a .entry)) (now (b .entry))) n (now (d .entry))) × (now (work .exit) ≡ packed (cutIn g) (readIn p (now (a .entry)) (now (b .entry))) n (now (work .entry))) ⌝ }
+    requires { ⌜ GridOf p g
+        × (n < total (cutIn g))
+        × Clear p (cutIn g) (length (now a)) (length (now b)) (length (now d))
+        × (g .sizes .rows * g .sizes .depth + g .sizes .cols * g .sizes .depth ≤ length (now work)) ⌝ }
+    ensures { λ _. ⌜ (now (d .exit)
+        ≡ tileStep (planSetting p (cutIn g) alpha beta (now (a .entry)) (now (b .entry))) n (now (d .entry)))
+        × (now (work .exit) ≡ packed (cutIn g) (readIn p (now (a .entry)) (now (b .entry))) n (now (work .entry))) ⌝ }
 {
-    let s = Stand::of(p, g, n);
+    let s = TileOffsets::of(p, g, n);
     let sizes = g.sizes;
     let rows = sizes.rows as usize;
     let cols = sizes.cols as usize;

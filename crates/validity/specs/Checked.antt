@@ -8,8 +8,8 @@ use Rattle.limits.specs.Limits.{axesLimit}
 use Rattle.layout.specs.declared.layout.Axis.{Axis}
 use Rattle.layout.specs.declared.axes.Axes.{Axes}
 use Rattle.layout.specs.Listed.{listed}
-use Rattle.validity.specs.declared.questions.Valid.{Valid}
-use Rattle.validity.specs.Questions.{lettersValid, extentsValid, stridesValid}
+use Rattle.validity.specs.declared.tensor_questions.Valid.{Valid}
+use Rattle.validity.specs.TensorQuestions.{lettersValid, extentsValid, stridesValid}
 
 -- what the code of questions 6 to 9 may assume: questions 1 and 3 to 5 passed
 pub record Checked (x : Axes) : Type 0 where

@@ -1,3 +1,4 @@
 pub mod Checked
 pub mod Letters
-pub mod Questions
+pub mod TensorCases
+pub mod TensorQuestions

@@ -1,3 +1,3 @@
 // Is a tensor valid by itself? Questions 1 to 5.
 pub mod letter;
-pub mod questions;
+pub mod tensor_questions;

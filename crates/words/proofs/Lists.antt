@@ -7,7 +7,7 @@ use Prim.Native.Nat.{ℕ, _+_, _*_}
 use native.Mathlib.Nat.{add-zero}
 use native.Mathlib.Omega.{arith}
 use lib.Dec.{T, eqb, eqb→eq, eqb-refl}
-use Rattle.words.specs.Sums.{total, All}
+use Rattle.words.specs.Sums.{sumOf, All}
 use Rattle.words.specs.Lists.{member, keep, cons-if, distinct}
 
 pub all-map : {X Y : Type 0} (P : Y → Type 0) (f : X → Y) (xs : List X) → All (λ x. P (f x)) xs → All P (map f xs)
@@ -132,16 +132,16 @@ members cs = subst (λ (l : List ℕ). All (λ c. member c l ≡ true) cs) (map-
     map-id (c ∷ cs) = ap (λ l. c ∷ l) (map-id cs)
 
 -- a sum that counts one number of the list only
-pub total-single : (d s : ℕ) (ρ : ℕ → ℕ) (cs : List ℕ) → Unique cs → member d cs ≡ true → total (λ c. ρ c * cond (eqb d c) s 0) cs ≡ ρ d * s
-total-single d s ρ [] u m = absurd (true≢false (sym m))
-total-single d s ρ (c ∷ cs) u m = go (eqb d c) refl m (total-single d s ρ cs (u .1))
+pub sumOf-single : (d s : ℕ) (ρ : ℕ → ℕ) (cs : List ℕ) → Unique cs → member d cs ≡ true → sumOf (λ c. ρ c * cond (eqb d c) s 0) cs ≡ ρ d * s
+sumOf-single d s ρ [] u m = absurd (true≢false (sym m))
+sumOf-single d s ρ (c ∷ cs) u m = go (eqb d c) refl m (sumOf-single d s ρ cs (u .1))
   where
-    none : (cs : List ℕ) → All (λ x. eqb d x ≡ false) cs → total (λ c. ρ c * cond (eqb d c) s 0) cs ≡ 0
+    none : (cs : List ℕ) → All (λ x. eqb d x ≡ false) cs → sumOf (λ c. ρ c * cond (eqb d c) s 0) cs ≡ 0
     none [] a = refl
     none (x ∷ cs) a = rw (a .0) (omega (arith, none cs (a .1)))
 
-    go : (b : Bool) → eqb d c ≡ b → (b || member d cs) ≡ true → (member d cs ≡ true → total (λ c. ρ c * cond (eqb d c) s 0) cs ≡ ρ d * s)
-        → ρ c * cond b s 0 + total (λ c. ρ c * cond (eqb d c) s 0) cs ≡ ρ d * s
+    go : (b : Bool) → eqb d c ≡ b → (b || member d cs) ≡ true → (member d cs ≡ true → sumOf (λ c. ρ c * cond (eqb d c) s 0) cs ≡ ρ d * s)
+        → ρ c * cond b s 0 + sumOf (λ c. ρ c * cond (eqb d c) s 0) cs ≡ ρ d * s
     go true e m r = let p : d ≡ c = eqb-true d c e in rw (none cs (rw p (u .0)), ← p) (add-zero _)
     go false e m r = omega (arith, r m)
 

@@ -8,21 +8,21 @@ use Prim.Native.Nat.{ℕ, zero, suc, _+_, _*_, _≤_, _<_}
 use native.Mathlib.Nat.{add-zero, add-suc, add-assoc, mul-zero, mul-suc, mul-le-mul-left, mul-le-mul-right}
 use native.Mathlib.Omega.{arith}
 use lib.ListN.{drop}
-use Rattle.words.specs.Sums.{total, product, sumTo, every, All}
+use Rattle.words.specs.Sums.{sumOf, product, sumTo, every, All}
 use Rattle.words.specs.Lists.{keep, cons-if}
 
 module _ {X : Type 0} where
-  pub total-ext : {f g : X → ℕ} → ((x : X) → f x ≡ g x) → (xs : List X) → total f xs ≡ total g xs
-  total-ext e [] = refl
-  total-ext e (x ∷ xs) = rw (e x, total-ext e xs)
+  pub sumOf-ext : {f g : X → ℕ} → ((x : X) → f x ≡ g x) → (xs : List X) → sumOf f xs ≡ sumOf g xs
+  sumOf-ext e [] = refl
+  sumOf-ext e (x ∷ xs) = rw (e x, sumOf-ext e xs)
 
-  pub total-add : (f g : X → ℕ) (xs : List X) → total (λ x. f x + g x) xs ≡ total f xs + total g xs
-  total-add f g [] = refl
-  total-add f g (x ∷ xs) = omega (arith, total-add f g xs)
+  pub sumOf-add : (f g : X → ℕ) (xs : List X) → sumOf (λ x. f x + g x) xs ≡ sumOf f xs + sumOf g xs
+  sumOf-add f g [] = refl
+  sumOf-add f g (x ∷ xs) = omega (arith, sumOf-add f g xs)
 
-  pub total-zero : (xs : List X) → total (λ x. 0) xs ≡ 0
-  total-zero [] = refl
-  total-zero (x ∷ xs) = omega (arith, total-zero xs)
+  pub sumOf-zero : (xs : List X) → sumOf (λ x. 0) xs ≡ 0
+  sumOf-zero [] = refl
+  sumOf-zero (x ∷ xs) = omega (arith, sumOf-zero xs)
 
 pub sumTo-ext : {f g : ℕ → ℕ} (n : ℕ) → ((i : ℕ) → i < n → f i ≡ g i) → sumTo n f ≡ sumTo n g
 unfolding sumTo

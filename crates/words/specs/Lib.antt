@@ -3,3 +3,4 @@ pub mod Lists
 pub mod Loops
 pub mod Sums
 pub mod Words
+pub mod Texts

@@ -5,9 +5,9 @@ use mathlib.Core.Bool.{Bool, true, _&&_}
 use mathlib.Core.List.{List, [], _∷_}
 
 -- the sum of f over the members of a list
-abbrev pub total : {X : Type 0} → (X → ℕ) → List X → ℕ
-total f [] = 0
-total f (x ∷ xs) = f x + total f xs
+abbrev pub sumOf : {X : Type 0} → (X → ℕ) → List X → ℕ
+sumOf f [] = 0
+sumOf f (x ∷ xs) = f x + sumOf f xs
 
 -- the product of f over the members of a list
 abbrev pub product : {X : Type 0} → (X → ℕ) → List X → ℕ

@@ -20,7 +20,7 @@ use Rattle.offsets.specs.declared.offsets.Offsets.{Offsets}
 use Rattle.offsets.specs.Offsets.{wordsIn, Words}
 use Rattle.direct.specs.declared.walk.Walk.{Walk}
 use Rattle.direct.specs.Walk.{steps, places, filled, Readable, Walks, Clear}
-use Rattle.direct.proofs.Runs.{run-below, run-starts, run-place}
+use Rattle.direct.proofs.GroupRuns.{run-below, run-starts, run-place}
 use Rattle.direct.proofs.fill.fill.Statement.{statement}
 use Rattle.direct.proofs.fill.fill.Tie as tie
 

@@ -20,7 +20,7 @@ use Rattle.offsets.specs.Counts.{offsetIn}
 use Rattle.offsets.specs.Offsets.{wordsIn, Words}
 use Rattle.direct.specs.declared.walk.Walk.{Walk}
 use Rattle.direct.specs.Walk.{stepped, reached, dot, sumFrom, Walks}
-use Rattle.direct.proofs.Runs.{run-below, run-starts, run-place}
+use Rattle.direct.proofs.GroupRuns.{run-below, run-starts, run-place}
 use Rattle.direct.proofs.sum.depth_sum.Statement.{statement}
 use Rattle.direct.proofs.sum.depth_sum.Tie as tie
 

@@ -11,13 +11,13 @@ use Rattle.groups.specs.declared.groups.Group.{Group}
 use Rattle.groups.specs.Groups.{Label, size}
 use Rattle.groups.specs.Held.{labelsIn}
 use Rattle.groups.specs.Foldable.{Foldable}
-use Rattle.offsets.specs.declared.lead.Lead.{Lead}
-use Rattle.offsets.specs.Lead.{lead, Leads}
+use Rattle.offsets.specs.declared.first_label.FirstLabel.{FirstLabel}
+use Rattle.offsets.specs.FirstLabel.{firstLabel, FirstLabelOf}
 use Rattle.direct.specs.Walk.{Walks}
 use Rattle.direct.proofs.walk.walk_of.Statement.{statement}
 use Rattle.direct.proofs.walk.walk_of.Tie as tie
 
-counted : (g : List Label) → size g ≡ lead g .extent * size (drop 1 g)
+counted : (g : List Label) → size g ≡ firstLabel g .extent * size (drop 1 g)
 counted [] = refl
 counted (l ∷ g) = refl
 
@@ -25,7 +25,7 @@ no-label : (g : Group) → g .count ≡ 0 → labelsIn g ≡ []
 unfolding labelsIn
 no-label g e = rw e
 
-walks : (g : Group) (l : Lead) (runs : ℕ) → g .count ≤ axesLimit → Foldable (labelsIn g) → Leads (labelsIn g) l → runs ≡ size (drop 1 (labelsIn g))
+walks : (g : Group) (l : FirstLabel) (runs : ℕ) → g .count ≤ axesLimit → Foldable (labelsIn g) → FirstLabelOf (labelsIn g) l → runs ≡ size (drop 1 (labelsIn g))
     → Walks (labelsIn g) (record { group = g; step = l .step; len = l .len; runs = runs })
 walks g l runs few foldable leads e =
     record {

@@ -11,7 +11,7 @@ use Rattle.words.proofs.Tabulate.{from, from-end, from-before}
 use Rattle.layout.specs.Listed.{listed}
 use Rattle.labels.specs.Labels.{extentOf}
 use Rattle.labels.specs.LetterSets.{spelled}
-use Rattle.entries.specs.Questions.{strideSize, below, apart}
+use Rattle.entries.specs.EntryQuestions.{strideSize, below, apart}
 use Rattle.entries.proofs.apart.all_apart.Statement.{statement}
 use Rattle.entries.proofs.apart.all_apart.Tie as tie
 

@@ -9,7 +9,7 @@ use lib.Dec.{eqb, leb}
 use Rattle.layout.specs.Listed.{listed}
 use Rattle.labels.specs.Labels.{extentOf}
 use Rattle.labels.proofs.Facts.{extents-bound}
-use Rattle.entries.specs.Questions.{strideSize}
+use Rattle.entries.specs.EntryQuestions.{strideSize}
 use Rattle.entries.proofs.Reach.{reach-lt}
 use Rattle.entries.proofs.apart.share.Statement.{statement}
 use Rattle.entries.proofs.apart.share.Tie as tie

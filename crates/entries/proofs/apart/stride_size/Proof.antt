@@ -8,7 +8,7 @@ use Rattle.words.proofs.Whole.{size-parts}
 use Rattle.layout.specs.Listed.{listed}
 use Rattle.labels.specs.Labels.{strideOf}
 use Rattle.labels.proofs.Facts.{small-stride, signed-stride}
-use Rattle.entries.specs.Questions.{strideSize}
+use Rattle.entries.specs.EntryQuestions.{strideSize}
 use Rattle.entries.proofs.apart.stride_size.Statement.{statement}
 use Rattle.entries.proofs.apart.stride_size.Tie as tie
 

@@ -1,4 +1,4 @@
--- `sum_below` meets its contract. The loop goes from the last label to the first, as `total` does; its invariant: the sum so far is that of
+-- `sum_below` meets its contract. The loop goes from the last label to the first, as `sumOf` does; its invariant: the sum so far is that of
 -- the labels from i on, and at most 2^48 for each of them, so it fits. The measure is i.
 -- Assumes nothing.
 use mathlib.Core.Path.{_≡_}
@@ -6,12 +6,12 @@ use mathlib.Core.Bool.{not, cond, _&&_}
 use Prim.Native.Nat.{_*_, _-_, _^_, _≤_}
 use native.Mathlib.Omega.{arith}
 use lib.Dec.{eqb, leb}
-use Rattle.words.specs.Sums.{total}
+use Rattle.words.specs.Sums.{sumOf}
 use Rattle.words.proofs.Tabulate.{from, from-end, from-before}
 use Rattle.layout.specs.Listed.{listed}
 use Rattle.labels.specs.Labels.{extentOf}
 use Rattle.labels.specs.LetterSets.{spelled}
-use Rattle.entries.specs.Questions.{strideSize, below}
+use Rattle.entries.specs.EntryQuestions.{strideSize, below}
 use Rattle.entries.proofs.apart.sum_below.Statement.{statement}
 use Rattle.entries.proofs.apart.sum_below.Tie as tie
 
@@ -19,7 +19,7 @@ abbrev Inv-loop : tie.InvT-loop
 Inv-loop x c letters i₀ sum₀ i sum =
     (i ≤ i₀)
     × (sum
-    ≡ total
+    ≡ sumOf
     (λ d. cond (not (eqb c d) && leb (strideSize (listed x) d) (strideSize (listed x) c)) ((extentOf d (listed x) - 1) * strideSize (listed x) d) 0)
     (from 0 letters i₀ i))
     × (sum ≤ (i₀ - i) * 2 ^ 48)

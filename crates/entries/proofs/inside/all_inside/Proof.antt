@@ -1,7 +1,7 @@
 -- `all_inside` meets its contract: the reach down and up are the two spans that question 8 compares.
 -- Assumes nothing.
 use borrow.Author.Needs.{needs}
-use Rattle.entries.specs.Questions.{inside}
+use Rattle.entries.specs.EntryQuestions.{inside}
 use Rattle.entries.proofs.inside.all_inside.Statement.{statement}
 use Rattle.entries.proofs.inside.all_inside.Tie as tie
 

@@ -1,11 +1,11 @@
--- `reach_of` meets its contract. The loop goes from the last label to the first, as `total` does; its invariant: each reach so far is the
+-- `reach_of` meets its contract. The loop goes from the last label to the first, as `sumOf` does; its invariant: each reach so far is the
 -- span of the labels from i on, and at most 2^48 for each of them, which keeps it below 2^60. The measure is i.
 -- Assumes nothing.
 use mathlib.Core.Path.{_≡_}
 use Prim.Native.Nat.{ℕ, _*_, _-_, _^_, _≤_, _<_}
 use native.Mathlib.Omega.{arith}
 use lib.ListN.{getD}
-use Rattle.words.specs.Sums.{total}
+use Rattle.words.specs.Sums.{sumOf}
 use Rattle.words.specs.Words.{up, down, signed}
 use Rattle.words.proofs.Tabulate.{from, from-end, from-before}
 use Rattle.limits.specs.Limits.{extentLimit}
@@ -14,7 +14,7 @@ use Rattle.layout.specs.Listed.{listed}
 use Rattle.labels.specs.Labels.{strideOf, extentOf}
 use Rattle.labels.specs.LetterSets.{spelled}
 use Rattle.labels.proofs.Facts.{extents-bound, small-up, small-down, signed-stride}
-use Rattle.entries.specs.Questions.{span}
+use Rattle.entries.specs.EntryQuestions.{span}
 use Rattle.entries.proofs.Reach.{reach-lt}
 use Rattle.entries.proofs.inside.reach_of.Statement.{statement}
 use Rattle.entries.proofs.inside.reach_of.Tie as tie
@@ -22,8 +22,8 @@ use Rattle.entries.proofs.inside.reach_of.Tie as tie
 abbrev Inv-loop : tie.InvT-loop
 Inv-loop x letters i₀ reach₀ i reach =
     (i ≤ i₀)
-    × (reach .up ≡ total (λ c. (extentOf c (listed x) - 1) * up (strideOf c (listed x))) (from 0 letters i₀ i))
-    × (reach .down ≡ total (λ c. (extentOf c (listed x) - 1) * down (strideOf c (listed x))) (from 0 letters i₀ i))
+    × (reach .up ≡ sumOf (λ c. (extentOf c (listed x) - 1) * up (strideOf c (listed x))) (from 0 letters i₀ i))
+    × (reach .down ≡ sumOf (λ c. (extentOf c (listed x) - 1) * down (strideOf c (listed x))) (from 0 letters i₀ i))
     × (reach .up ≤ (i₀ - i) * 2 ^ 48)
     × (reach .down ≤ (i₀ - i) * 2 ^ 48)
 

@@ -18,7 +18,7 @@ use Rattle.groups.specs.Held.{asLabel, noDim, labelsIn}
 use Rattle.groups.specs.Foldable.{Small, Foldable}
 use Rattle.groups.proofs.LabelLists.{holding, labels-push, labels-last}
 use Rattle.folding.specs.Fold.{joins, join}
-use Rattle.folding.specs.Added.{addTo}
+use Rattle.folding.specs.FoldedWith.{addTo}
 use Rattle.folding.proofs.Folding.{add-last, last-fits}
 use Rattle.folding.proofs.fold.added.Statement.{statement}
 use Rattle.folding.proofs.fold.added.Tie as tie

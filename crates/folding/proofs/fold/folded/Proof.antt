@@ -12,7 +12,7 @@ use Rattle.groups.specs.declared.groups.Dim.{Dim}
 use Rattle.groups.specs.declared.groups.Group.{Group}
 use Rattle.groups.specs.Groups.{Label}
 use Rattle.groups.specs.Held.{asLabel, noDim, labelsIn}
-use Rattle.folding.specs.Added.{addTo}
+use Rattle.folding.specs.FoldedWith.{addTo}
 use Rattle.folding.proofs.Folding.{Folding, fold-start, fold-skip, fold-add, fold-end}
 use Rattle.folding.proofs.fold.folded.Statement.{statement}
 use Rattle.folding.proofs.fold.folded.Tie as tie

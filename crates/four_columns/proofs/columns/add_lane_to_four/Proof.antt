@@ -5,7 +5,7 @@ use Prim.Native.Nat.{_-_, _<_, _≤_}
 use native.Mathlib.Omega.{arith}
 use Rattle.words.specs.Loops.{each}
 use Rattle.kernel.specs.Kernel.{laneAdded}
-use Rattle.kernel.proofs.Lanes.{lane-turn}
+use Rattle.kernel.proofs.LaneSums.{lane-turn}
 use Rattle.four_columns.proofs.columns.add_lane_to_four.Statement.{statement}
 use Rattle.four_columns.proofs.columns.add_lane_to_four.Tie as tie
 

@@ -11,7 +11,7 @@ use lib.ListN.{getD}
 use Rattle.words.specs.Lists.{keep}
 use Rattle.words.proofs.Tabulate.{from, from-end, from-next}
 use Rattle.labels.specs.LetterSets.{has, spelled}
-use Rattle.contraction.specs.Lists.{shapeOf}
+use Rattle.contraction.specs.TensorAxes.{shapeOf}
 use Rattle.groups.specs.declared.groups.Group.{Group}
 use Rattle.groups.specs.Groups.{label}
 use Rattle.groups.specs.Held.{labelsIn}

@@ -6,11 +6,11 @@ use Prim.Native.Nat.{ℕ}
 use borrow.Author.Needs.{needs}
 use Rattle.words.specs.Lists.{keep}
 use Rattle.layout.specs.Listed.{listed}
-use Rattle.labels.specs.declared.letters.Letters.{Letters}
+use Rattle.labels.specs.declared.letter_sets.Letters.{Letters}
 use Rattle.labels.specs.Labels.{labels}
 use Rattle.labels.specs.LetterSets.{has, spelled, Spells}
 use Rattle.contraction.specs.declared.operands.Operands.{Operands}
-use Rattle.contraction.specs.Lists.{Gathered, shapeOf}
+use Rattle.contraction.specs.TensorAxes.{Gathered, shapeOf}
 use Rattle.contraction.specs.Operands.{Operand, A, B, D, three}
 use Rattle.groups.specs.declared.groups.Sets.{Sets}
 use Rattle.groups.specs.declared.groups.Group.{Group as GroupCode}

@@ -7,7 +7,7 @@ use borrow.Author.Needs.{needs}
 use Rattle.words.specs.Lists.{keep}
 use Rattle.labels.specs.LetterSets.{has}
 use Rattle.contraction.specs.Operands.{D}
-use Rattle.contraction.specs.Lists.{shapeOf}
+use Rattle.contraction.specs.TensorAxes.{shapeOf}
 use Rattle.groups.specs.Groups.{label}
 use Rattle.groups.proofs.Sets.{kept-output}
 use Rattle.groups.proofs.groups.output_of.Statement.{statement}

@@ -4,7 +4,7 @@ use mathlib.Core.Path.{ap}
 use borrow.Author.Needs.{needs}
 use denote.Ref.{now}
 use Rattle.records.proofs.Reading.{got-held}
-use Rattle.jobfile.specs.Parts.{jobParts}
+use Rattle.jobfile.specs.JobParts.{jobParts}
 use Rattle.job.specs.Run.{jobText}
 use Rattle.job.proofs.Running.{got-text, unread-text, put-counted}
 use Rattle.job.proofs.run.run.Statement.{statement}

@@ -4,7 +4,7 @@ use mathlib.Core.Path.{ap}
 use borrow.Author.Needs.{needs}
 use borrow.Author.Tests.{eq-eqb, ne-eqb}
 use Rattle.records.proofs.Reading.{got-held, goes-on, stops}
-use Rattle.go.specs.Parts.{goPart}
+use Rattle.go.specs.GoParts.{goPart}
 use Rattle.jobfile.specs.Format.{fromGo}
 use Rattle.jobfile.proofs.reader.from_go.Statement.{statement}
 use Rattle.jobfile.proofs.reader.from_go.Tie as tie

@@ -5,7 +5,7 @@ use Prim.Native.Nat.{_-_, _≤_}
 use native.Mathlib.Omega.{arith}
 use Rattle.words.specs.Loops.{each}
 use Rattle.kernel.specs.Kernel.{laneAdded}
-use Rattle.kernel.proofs.Lanes.{lane-turn}
+use Rattle.kernel.proofs.LaneSums.{lane-turn}
 use Rattle.kernel.proofs.kernel.add_lane.Statement.{statement}
 use Rattle.kernel.proofs.kernel.add_lane.Tie as tie
 

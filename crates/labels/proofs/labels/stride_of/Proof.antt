@@ -22,7 +22,7 @@ use Rattle.layout.specs.declared.layout.Axis.{Axis}
 use Rattle.layout.specs.Layout.{noAxis}
 use Rattle.layout.specs.Listed.{listed}
 use Rattle.layout.proofs.Listed.{length-listed}
-use Rattle.validity.specs.Questions.{stridesValid}
+use Rattle.validity.specs.TensorQuestions.{stridesValid}
 use Rattle.labels.specs.Labels.{strideOf}
 use Rattle.labels.proofs.Facts.{strides-bound}
 use Rattle.labels.proofs.labels.stride_of.Statement.{statement}

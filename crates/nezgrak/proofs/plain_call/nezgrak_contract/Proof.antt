@@ -7,13 +7,13 @@ use borrow.Author.Needs.{needs}
 use Rattle.contraction.specs.declared.contraction.Contraction.{Contraction}
 use Rattle.meaning.specs.Meaning.{Slices}
 use Rattle.plain.specs.declared.call.Outcome.{Outcome}
-use Rattle.plain.specs.Call.{answerOf, gave, plainCall}
-use Rattle.flat.specs.Flat.{number, returned, flat}
+use Rattle.plain.specs.PlainCall.{plainAnswer, plainCallOf, plainCall}
+use Rattle.flat.specs.Flat.{plainStatus, returned, flat}
 use Rattle.nezgrak.proofs.plain_call.nezgrak_contract.Statement.{statement}
 use Rattle.nezgrak.proofs.plain_call.nezgrak_contract.Tie as tie
 
 -- what the plain call gives is handed on
-handed : (c c′ : Contraction) (w : Slices) (o : Outcome) {r : ℕ} {last : List ℕ} → c ≡ c′ → r ≡ number (answerOf o) → gave (answerOf o) last ≡ plainCall c w
+handed : (c c′ : Contraction) (w : Slices) (o : Outcome) {r : ℕ} {last : List ℕ} → c ≡ c′ → r ≡ plainStatus (plainAnswer o) → plainCallOf (plainAnswer o) last ≡ plainCall c w
     → returned r last ≡ flat (plainCall c′ w)
 handed c c′ w o {last = last} e f g = ap (λ (n : ℕ). returned n last) f ∙ ap flat g ∙ ap (λ (x : Contraction). flat (plainCall x w)) e
 
@@ -23,8 +23,8 @@ contraction-of-requires c κs = search needs
 contract-requires : tie.Need-contract-requires
 contract-requires c κs = search needs
 
-code-of-requires : tie.Need-code-of-requires
-code-of-requires c κs = search needs
+status-of-requires : tie.Need-status-of-requires
+status-of-requires c κs = search needs
 
 same-length : tie.Need-same-length
 same-length c = search needs
@@ -32,7 +32,7 @@ same-length c = search needs
 returns : tie.Need-returns
 returns c =
     let k = c .before .before .before in
-    handed _ _ _ (k .contract .result) (k .before .before .contraction-of .ensures) (c .code-of .ensures) (k .contract .ensures)
+    handed _ _ _ (k .contract .result) (k .before .before .contraction-of .ensures) (c .status-of .ensures) (k .contract .ensures)
 
 pub nezgrak-contract-spec : {M : Type 1} → statement M
-nezgrak-contract-spec = tie.close (tie.spec contraction-of-requires contract-requires code-of-requires same-length returns)
+nezgrak-contract-spec = tie.close (tie.spec contraction-of-requires contract-requires status-of-requires same-length returns)

@@ -7,14 +7,14 @@ use Rattle.contraction.specs.declared.contraction.Contraction.{Contraction}
 use Rattle.meaning.specs.Meaning.{Slices}
 use Rattle.tiles.specs.declared.grid.Sizes.{Sizes}
 use Rattle.tiled.specs.declared.call.Found.{Found}
-use Rattle.tiled.specs.Call.{stateAnswer, stateCall}
-use Rattle.flat.specs.FlatState.{stateNumber, stateAfter, stateReturned, flatState}
+use Rattle.tiled.specs.TileCall.{stateAnswer, stateCall}
+use Rattle.flat.specs.FlatState.{stateStatus, stateAfter, stateReturned, flatState}
 use Rattle.nezgrak.proofs.state_call.nezgrak_state.Statement.{statement}
 use Rattle.nezgrak.proofs.state_call.nezgrak_state.Tie as tie
 
 -- what the state question gives is handed on
 handed : (c c′ : Contraction) (z : Sizes) (w : Slices) (x : Found) (before t h i j : ℕ) {r last : ℕ} → c ≡ c′
-    → r ≡ stateNumber (stateAnswer x) → last ≡ stateAfter (stateAnswer x) before → stateAnswer x ≡ stateCall c z w t h i j
+    → r ≡ stateStatus (stateAnswer x) → last ≡ stateAfter (stateAnswer x) before → stateAnswer x ≡ stateCall c z w t h i j
     → stateReturned r last ≡ flatState before (stateCall c′ z w t h i j)
 handed c c′ z w x before t h i j e r s g =
     (λ k. stateReturned (r k) (s k)) ∙ ap (flatState before) g ∙ ap (λ (x : Contraction). flatState before (stateCall x z w t h i j)) e
@@ -28,13 +28,13 @@ state-requires c κs = search needs
 state-after-requires : tie.Need-state-after-requires
 state-after-requires c κs = search needs
 
-number-of-requires : tie.Need-number-of-requires
-number-of-requires c κs = search needs
+status-of-requires : tie.Need-status-of-requires
+status-of-requires c κs = search needs
 
 returns : tie.Need-returns
 returns c =
     let k = c .before .before .before in
-    handed _ _ _ _ (k .state .result) _ _ _ _ _ (k .before .contraction-of .ensures) (c .number-of .ensures) (c .before .state-after .ensures) (k .state .ensures)
+    handed _ _ _ _ (k .state .result) _ _ _ _ _ (k .before .contraction-of .ensures) (c .status-of .ensures) (c .before .state-after .ensures) (k .state .ensures)
 
 pub nezgrak-state-spec : {M : Type 1} → statement M
-nezgrak-state-spec = tie.close (tie.spec contraction-of-requires state-requires state-after-requires number-of-requires returns)
+nezgrak-state-spec = tie.close (tie.spec contraction-of-requires state-requires state-after-requires status-of-requires returns)

@@ -8,15 +8,15 @@ use Rattle.contraction.specs.declared.contraction.Contraction.{Contraction}
 use Rattle.meaning.specs.Meaning.{Slices}
 use Rattle.tiles.specs.declared.grid.Sizes.{Sizes}
 use Rattle.tiled.specs.declared.call.Outcome.{Outcome}
-use Rattle.tiled.specs.Call.{tileAnswer, doneIn, gave, tileCall}
-use Rattle.flat.specs.FlatTiles.{tileNumber, saidComplete, tilesReturned, flatTiles}
+use Rattle.tiled.specs.TileCall.{tileAnswer, doneIn, tileCallOf, tileCall}
+use Rattle.flat.specs.FlatTiles.{tileStatus, saidComplete, tilesReturned, flatTiles}
 use Rattle.nezgrak.proofs.tile_call.nezgrak_run_tiles.Statement.{statement}
 use Rattle.nezgrak.proofs.tile_call.nezgrak_run_tiles.Tie as tie
 
 -- what the tile call gives is handed on
 handed : (c c′ : Contraction) (z : Sizes) (w : Slices) (o : Outcome) (work : List ℕ) (t budget : ℕ) {r done complete : ℕ} {words last : List ℕ} → c ≡ c′
-    → r ≡ tileNumber (tileAnswer o) → done ≡ doneIn (tileAnswer o) → complete ≡ saidComplete (tileAnswer o)
-    → gave (tileAnswer o) words last ≡ tileCall c z w work t budget
+    → r ≡ tileStatus (tileAnswer o) → done ≡ doneIn (tileAnswer o) → complete ≡ saidComplete (tileAnswer o)
+    → tileCallOf (tileAnswer o) words last ≡ tileCall c z w work t budget
     → tilesReturned r done complete words last ≡ flatTiles (tileCall c′ z w work t budget)
 handed c c′ z w o work t budget {words = words} {last = last} e r d f g =
     (λ i. tilesReturned (r i) (d i) (f i) words last) ∙ ap flatTiles g ∙ ap (λ (x : Contraction). flatTiles (tileCall x z w work t budget)) e
@@ -33,8 +33,8 @@ done-of-requires c κs = search needs
 complete-of-requires : tie.Need-complete-of-requires
 complete-of-requires c κs = search needs
 
-number-of-requires : tie.Need-number-of-requires
-number-of-requires c κs = search needs
+status-of-requires : tie.Need-status-of-requires
+status-of-requires c κs = search needs
 
 same-length : tie.Need-same-length
 same-length c = search needs
@@ -45,9 +45,9 @@ same-length-2 c = search needs
 returns : tie.Need-returns
 returns c =
     let k = c .before .before .before .before .before .before .before in
-    handed _ _ _ _ (k .run .result) _ _ _ (k .before .before .before .contraction-of .ensures) (c .number-of .ensures) (c .before .before .done-of .ensures)
+    handed _ _ _ _ (k .run .result) _ _ _ (k .before .before .before .contraction-of .ensures) (c .status-of .ensures) (c .before .before .done-of .ensures)
     (c .before .complete-of .ensures) (k .run .ensures)
 
 pub nezgrak-run-tiles-spec : {M : Type 1} → statement M
 nezgrak-run-tiles-spec =
-    tie.close (tie.spec contraction-of-requires run-requires done-of-requires complete-of-requires number-of-requires same-length same-length-2 returns)
+    tie.close (tie.spec contraction-of-requires run-requires done-of-requires complete-of-requires status-of-requires same-length same-length-2 returns)

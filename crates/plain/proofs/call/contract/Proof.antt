@@ -22,12 +22,12 @@ use Rattle.offsets.specs.Offsets.{wordsIn}
 use Rattle.meaning.specs.Meaning.{result}
 use Rattle.plan.specs.declared.plan.Plan.{Plan}
 use Rattle.plan.specs.Plan.{Planned}
-use Rattle.plan.proofs.Foldable.{group-foldable, outputs-foldable, fold-foldable}
+use Rattle.plan.proofs.GroupsFoldable.{group-foldable, outputs-foldable, fold-foldable}
 use Rattle.direct.specs.declared.walk.Walk.{Walk}
 use Rattle.direct.specs.Walk.{places, over, filled, Walks, Clear}
-use Rattle.direct.proofs.Filled.{clear, filled-result}
-use Rattle.plain.specs.Call.{done, gave}
-use Rattle.plain.proofs.Answered.{asked, call-refused, call-done}
+use Rattle.direct.proofs.DirectResult.{clear, filled-result}
+use Rattle.plain.specs.PlainCall.{plainDone, plainCallOf}
+use Rattle.plain.proofs.PlainAnswered.{asked, call-refused, call-done}
 use Rattle.plain.proofs.call.contract.Statement.{statement}
 use Rattle.plain.proofs.call.contract.Tie as tie
 
@@ -93,7 +93,7 @@ returns-2 c =
     let r = c .before .before .before .before .before .before .before .before .before .before in
     let s = r .before .before .before .before .before .before in
     let n = r .before .before .first-no .ensures in
-    ap (gave done)
+    ap (plainCallOf plainDone)
     (c .before .before .fill .ensures
     ∙ fill-leaves (s .args .c) (now (s .args .a)) (now (s .args .b)) (now (s .args .d)) (zero-found n (omega arith)) (r .plan-of .result) (r .plan-of .ensures)
     (c .before .before .before .before .walk-of .result) (c .before .before .before .walk-of2 .result) (c .before .before .before .before .walk-of .ensures)

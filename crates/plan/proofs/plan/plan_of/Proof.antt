@@ -9,7 +9,7 @@ use Rattle.contraction.specs.declared.contraction.Contraction.{Contraction}
 use Rattle.contraction.specs.declared.contraction.Lengths.{Lengths}
 use Rattle.contraction.specs.declared.operands.Operands.{Operands}
 use Rattle.contraction.specs.Operands.{A, B, D, Shape, tensors, lengths, shape}
-use Rattle.contraction.specs.Lists.{shapeOf, Lists}
+use Rattle.contraction.specs.TensorAxes.{shapeOf, Lists}
 use Rattle.questions.specs.Answers.{LayoutsPass}
 use Rattle.questions.proofs.Ready.{AllPassed, accepted-parts}
 use Rattle.groups.specs.declared.groups.Group.{Group as GroupCode}
@@ -19,7 +19,7 @@ use Rattle.groups.specs.Held.{labelsIn}
 use Rattle.groups.specs.Sets.{Grouped, groupsIn}
 use Rattle.groups.specs.Foldable.{Foldable}
 use Rattle.folding.specs.Fold.{fold}
-use Rattle.plan.proofs.Foldable.{accepted-rank, accepted-gathered, group-foldable, outputs-foldable, same-shape}
+use Rattle.plan.proofs.GroupsFoldable.{accepted-rank, accepted-gathered, group-foldable, outputs-foldable, same-shape}
 use Rattle.plan.proofs.plan.plan_of.Statement.{statement}
 use Rattle.plan.proofs.plan.plan_of.Tie as tie
 

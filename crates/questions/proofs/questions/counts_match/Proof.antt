@@ -1,7 +1,7 @@
 -- `counts_match` meets its contract: the answers of the three tensors are the question's.
 -- Assumes nothing.
 use borrow.Author.Needs.{needs}
-use Rattle.validity.specs.Questions.{countsMatch}
+use Rattle.validity.specs.TensorQuestions.{countsMatch}
 use Rattle.contraction.specs.Operands.{tensors}
 use Rattle.questions.proofs.Refusal.{three-ofEach}
 use Rattle.questions.proofs.questions.counts_match.Statement.{statement}

@@ -2,9 +2,9 @@
 -- Assumes nothing.
 use borrow.Author.Needs.{needs}
 use Rattle.layout.specs.Layout.{axes}
-use Rattle.validity.specs.Questions.{lettersValid, extentsValid}
+use Rattle.validity.specs.TensorQuestions.{lettersValid, extentsValid}
 use Rattle.contraction.specs.Operands.{A, B, D, tensors}
-use Rattle.questions.specs.Questions.{eachTensor}
+use Rattle.questions.specs.Questions.{tensorQuestions}
 use Rattle.questions.proofs.Refusal.{three-ofEach, fails, passes, none-left, asked}
 use Rattle.questions.proofs.Ready.{ranks-low}
 use Rattle.questions.proofs.questions.each_refusal.Statement.{statement}
@@ -14,7 +14,7 @@ ranks-fit-requires : tie.Need-ranks-fit-requires
 ranks-fit-requires c κs = search needs
 
 returns : tie.Need-returns
-unfolding eachTensor
+unfolding tensorQuestions
 returns c = rw (fails (c .before .ranks-fit .ensures) (c .if1 .taken))
 
 of-requires : tie.Need-of-requires
@@ -48,7 +48,7 @@ ask-requires-4 : tie.Need-ask-requires-4
 ask-requires-4 c κs = search needs
 
 returns-2 : tie.Need-returns-2
-unfolding eachTensor
+unfolding tensorQuestions
 returns-2 c =
     let k = c .before .before .before .before in
     let v = c .before .before .before .before .before .before .before .before .before .before .before in

@@ -5,7 +5,7 @@ use mathlib.Core.List.{List}
 use borrow.Author.Needs.{needs}
 use Rattle.layout.specs.declared.layout.Axis.{Axis}
 use Rattle.layout.specs.Layout.{axes}
-use Rattle.entries.specs.Questions.{inside}
+use Rattle.entries.specs.EntryQuestions.{inside}
 use Rattle.contraction.specs.Operands.{A, B, D, tensors, lengths}
 use Rattle.questions.proofs.Refusal.{three-ofEach}
 use Rattle.questions.proofs.questions.entries_inside.Statement.{statement}

@@ -5,7 +5,7 @@ use mathlib.Core.Path.{sym, _∙_}
 use mathlib.Core.List.{_++_}
 use borrow.Author.Needs.{needs}
 use Rattle.contraction.specs.Operands.{tensors, lengths}
-use Rattle.questions.specs.Questions.{eachTensor, allLabels, entries, layoutQuestions}
+use Rattle.questions.specs.Questions.{tensorQuestions, labelQuestions, entryQuestions, layoutQuestions}
 use Rattle.questions.proofs.Refusal.{refusal-next, refusal-first}
 use Rattle.questions.proofs.Ready.{low-rank, ready-of}
 use Rattle.questions.proofs.questions.first_no.Statement.{statement}
@@ -20,7 +20,7 @@ returns c =
     let t = tensors (c .before .before .args .c) in
     let n = lengths (c .before .before .args .n) in
     let e = c .before .each-refusal .ensures in
-    e ∙ sym (refusal-first (eachTensor t n) (allLabels t n ++ entries t n) (λ z. c .if1 .taken (e ∙ z)))
+    e ∙ sym (refusal-first (tensorQuestions t n) (labelQuestions t n ++ entryQuestions t n) (λ z. c .if1 .taken (e ∙ z)))
 
 of-requires : tie.Need-of-requires
 of-requires c κs =
@@ -34,13 +34,13 @@ later-refusal-requires c κs =
     ready-of (s .args .c) (s .args .n) (c .of .result) (sym (each .before .each-refusal .ensures) ∙ each .if1 .left) (c .of .ensures)
 
 returns-2 : tie.Need-returns-2
-unfolding layoutQuestions eachTensor
+unfolding layoutQuestions tensorQuestions
 returns-2 c =
     let each = c .before .before in
     let t = tensors (each .before .before .args .c) in
     let n = lengths (each .before .before .args .n) in
     c .later-refusal .ensures
-    ∙ sym (refusal-next (eachTensor t n) (allLabels t n ++ entries t n) tt (sym (each .before .each-refusal .ensures) ∙ each .if1 .left))
+    ∙ sym (refusal-next (tensorQuestions t n) (labelQuestions t n ++ entryQuestions t n) tt (sym (each .before .each-refusal .ensures) ∙ each .if1 .left))
 
 pub first-no-spec : {M : Type 1} → statement M
 first-no-spec =

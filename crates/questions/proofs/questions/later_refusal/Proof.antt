@@ -3,10 +3,10 @@
 -- Assumes nothing.
 use mathlib.Core.Path.{ap, _∙_}
 use borrow.Author.Needs.{needs}
-use Rattle.points.specs.Questions.{extentsAgree, pointsFit}
-use Rattle.entries.specs.Questions.{apart}
+use Rattle.points.specs.LabelQuestions.{extentsAgree, pointsFit}
+use Rattle.entries.specs.EntryQuestions.{apart}
 use Rattle.contraction.specs.Operands.{D}
-use Rattle.questions.specs.Questions.{allLabels, entries}
+use Rattle.questions.specs.Questions.{labelQuestions, entryQuestions}
 use Rattle.questions.proofs.Refusal.{none-left, asked}
 use Rattle.questions.proofs.Ready.{all-listed}
 use Rattle.questions.proofs.questions.later_refusal.Statement.{statement}
@@ -37,7 +37,7 @@ ask-requires-4 : tie.Need-ask-requires-4
 ask-requires-4 c κs = search needs
 
 returns : tie.Need-returns
-unfolding allLabels entries
+unfolding labelQuestions entryQuestions
 returns c =
     let s = c .before .before .before .before .before .before .before .before .before .before in
     let k = c .before .before .before .before in

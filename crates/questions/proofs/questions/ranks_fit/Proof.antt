@@ -1,7 +1,7 @@
 -- `ranks_fit` meets its contract: the answers of the three tensors are the question's.
 -- Assumes nothing.
 use borrow.Author.Needs.{needs}
-use Rattle.validity.specs.Questions.{rankFits}
+use Rattle.validity.specs.TensorQuestions.{rankFits}
 use Rattle.contraction.specs.Operands.{tensors}
 use Rattle.questions.proofs.Refusal.{three-ofEach}
 use Rattle.questions.proofs.questions.ranks_fit.Statement.{statement}

@@ -1,7 +1,7 @@
 -- `sizes_valid` meets its contract: the answers of the three tensors are the question's.
 -- Assumes nothing.
 use borrow.Author.Needs.{needs}
-use Rattle.validity.specs.Questions.{sizesValid}
+use Rattle.validity.specs.TensorQuestions.{sizesValid}
 use Rattle.contraction.specs.Operands.{A, B, D, tensors, lengths}
 use Rattle.questions.proofs.Refusal.{three-ofEach}
 use Rattle.questions.proofs.questions.sizes_valid.Statement.{statement}

@@ -3,7 +3,7 @@
 use mathlib.Core.Path.{ap}
 use borrow.Author.Needs.{needs}
 use Rattle.records.specs.Records.{tensorRecords}
-use Rattle.records.specs.Parts.{layoutPart}
+use Rattle.records.specs.RecordParts.{layoutPart}
 use Rattle.records.proofs.Reading.{got-held, goes-on, stops}
 use Rattle.records.proofs.records.tensor_records.Statement.{statement}
 use Rattle.records.proofs.records.tensor_records.Tie as tie

@@ -3,7 +3,7 @@
 use mathlib.Core.Path.{refl, ap}
 use borrow.Author.Needs.{needs}
 use Rattle.records.specs.Records.{wordsAfter}
-use Rattle.records.specs.Parts.{wordsPart}
+use Rattle.records.specs.RecordParts.{wordsPart}
 use Rattle.records.proofs.Reading.{got-held, goes-on, stops}
 use Rattle.records.proofs.records.words_after.Statement.{statement}
 use Rattle.records.proofs.records.words_after.Tie as tie

@@ -6,7 +6,7 @@ use lib.ListN.{length}
 use borrow.Author.Needs.{needs}
 use mathlib.Core.Path.{refl}
 use Rattle.words.proofs.Filled.{Filled, filled-none, filled-more, filled-all}
-use Rattle.states.specs.Letters.{outside}
+use Rattle.states.specs.StateLetters.{outside}
 use Rattle.states.proofs.letters.clear.Statement.{statement}
 use Rattle.states.proofs.letters.clear.Tie as tie
 

@@ -3,9 +3,9 @@
 use mathlib.Core.Path.{sym, _∙_}
 use borrow.Author.Needs.{needs}
 use Rattle.contraction.specs.Operands.{tensors, lengths}
-use Rattle.questions.specs.Questions.{eachTensor, allLabels, entries, layoutQuestions}
+use Rattle.questions.specs.Questions.{tensorQuestions, labelQuestions, entryQuestions, layoutQuestions}
 use Rattle.questions.proofs.Refusal.{refusal-next, refusal-first, none-left, asked}
-use Rattle.tile_questions.specs.Questions.{sizeQuestion}
+use Rattle.tile_questions.specs.TileQuestions.{sizeQuestion}
 use Rattle.tile_questions.proofs.refusals.accept_refusal.Statement.{statement}
 use Rattle.tile_questions.proofs.refusals.accept_refusal.Tie as tie
 
@@ -25,7 +25,7 @@ ask-requires : tie.Need-ask-requires
 ask-requires c κs = search needs
 
 returns-2 : tie.Need-returns-2
-unfolding layoutQuestions eachTensor allLabels entries sizeQuestion
+unfolding layoutQuestions tensorQuestions labelQuestions entryQuestions sizeQuestion
 returns-2 c =
     let nine = c .before .before in
     let s = nine .before .before in

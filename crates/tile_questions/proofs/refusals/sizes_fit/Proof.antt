@@ -1,7 +1,7 @@
 -- `sizes_fit` meets its contract: the answers of the three sizes are the question's.
 -- Assumes nothing.
 use borrow.Author.Needs.{needs}
-use Rattle.tile_questions.specs.Questions.{sizesFit}
+use Rattle.tile_questions.specs.TileQuestions.{sizesFit}
 use Rattle.tile_questions.proofs.refusals.sizes_fit.Statement.{statement}
 use Rattle.tile_questions.proofs.refusals.sizes_fit.Tie as tie
 

@@ -11,7 +11,7 @@ use Rattle.limits.specs.Limits.{rowsLimit, colsLimit, depthLimit}
 use Rattle.questions.proofs.Refusal.{none-left, asked}
 use Rattle.tiles.specs.declared.grid.Grid.{Grid}
 use Rattle.tiles.specs.Grid.{Counted}
-use Rattle.tile_questions.specs.Questions.{roomQuestion, doneQuestion}
+use Rattle.tile_questions.specs.TileQuestions.{roomQuestion, doneQuestion}
 use Rattle.tile_questions.proofs.refusals.tile_refusal.Statement.{statement}
 use Rattle.tile_questions.proofs.refusals.tile_refusal.Tie as tie
 
@@ -32,14 +32,14 @@ cast-cols c = search needs
 cast-depth : tie.Need-cast-depth
 cast-depth c = search needs
 
-mul-ask : tie.Need-mul-ask
-mul-ask c = let s = c .before .before .before .before in omega (arith, room-left (s .args .g) (s .pre))
+mul-enough : tie.Need-mul-enough
+mul-enough c = let s = c .before .before .before .before in omega (arith, room-left (s .args .g) (s .pre))
 
-mul-ask-2 : tie.Need-mul-ask-2
-mul-ask-2 c = let s = c .before .before .before .before in omega (arith, room-right (s .args .g) (s .pre))
+mul-enough-2 : tie.Need-mul-enough-2
+mul-enough-2 c = let s = c .before .before .before .before in omega (arith, room-right (s .args .g) (s .pre))
 
-add-ask : tie.Need-add-ask
-add-ask c = let s = c .before .before .before .before in omega (arith, room-left (s .args .g) (s .pre), room-right (s .args .g) (s .pre))
+add-enough : tie.Need-add-enough
+add-enough c = let s = c .before .before .before .before in omega (arith, room-left (s .args .g) (s .pre), room-right (s .args .g) (s .pre))
 
 ask-requires : tie.Need-ask-requires
 ask-requires c κs = search needs
@@ -62,9 +62,9 @@ tile-refusal-spec =
     cast-rows
     cast-cols
     cast-depth
-    mul-ask
-    mul-ask-2
-    add-ask
+    mul-enough
+    mul-enough-2
+    add-enough
     ask-requires
     ask-requires-2
     returns)

@@ -4,7 +4,7 @@ use mathlib.Core.Path.{_≡_, sym, ap}
 use borrow.Author.Needs.{needs}
 use Rattle.tiles.specs.declared.grid.State.{State}
 use Rattle.tiles.specs.Grid.{stateOf}
-use Rattle.tiled.specs.Call.{is}
+use Rattle.tiled.specs.TileCall.{is}
 use Rattle.tiled.proofs.call.answer_of.Statement.{statement}
 use Rattle.tiled.proofs.call.answer_of.Tie as tie
 

@@ -24,12 +24,12 @@ use Rattle.tiles.specs.declared.grid.Grid.{Grid}
 use Rattle.tiles.specs.Cut.{Cut, total}
 use Rattle.tiles.specs.Grid.{cutIn}
 use Rattle.tiles.specs.Setting.{walk, tilesFrom}
-use Rattle.tile_blocks.specs.Setting.{cutOf, setting}
+use Rattle.tile_blocks.specs.ContractionInTiles.{cutOf, setting}
 use Rattle.tile_blocks.specs.Planned.{GridOf, Clear, readIn, planSetting}
-use Rattle.tile_questions.specs.Questions.{sizeQuestion, roomQuestion, doneQuestion}
+use Rattle.tile_questions.specs.TileQuestions.{sizeQuestion, roomQuestion, doneQuestion}
 use Rattle.tiling.specs.Work.{packedLast, workAfter}
-use Rattle.tiled.specs.Call.{ran, refused, gave, ranCall, tileCall}
-use Rattle.tiled.proofs.Answered.{asked, accepted, tile-early, tile-late, tile-ran}
+use Rattle.tiled.specs.TileCall.{ran, tileRefused, tileCallOf, ranCall, tileCall}
+use Rattle.tiled.proofs.TileAnswered.{asked, accepted, tile-early, tile-late, tile-ran}
 use Rattle.tiled.proofs.Accepted.{none-refused, plan-asks, grid-asks, grid-cut}
 use Rattle.tiled.proofs.Reaches.{clear}
 use Rattle.tiled.proofs.Agrees.{walk-agrees, work-agrees}
@@ -53,7 +53,7 @@ module _ (c : Contraction) (z : Sizes) (a b d : List ℕ) {n : ℕ} (e : n ≡ r
       r ∙ ap (λ (s : Sizes). refusal (roomQuestion s (length work) ++ doneQuestion (cutIn g) t)) (o .1)
       ∙ ap (λ (G : Cut). refusal (roomQuestion z (length work) ++ doneQuestion G t)) cut
 
-  late-no : (budget : ℕ) → (k ≡ 0 → ⊥) → gave (refused k t) d work ≡ tileCall c z (three a b d) work t budget
+  late-no : (budget : ℕ) → (k ≡ 0 → ⊥) → tileCallOf (tileRefused k t) d work ≡ tileCall c z (three a b d) work t budget
   late-no budget = tile-late c z (three a b d) work t budget (none-refused c z a b d e y) late
 
   -- where they pass
@@ -84,7 +84,7 @@ module _ (c : Contraction) (z : Sizes) (a b d : List ℕ) {n : ℕ} (e : n ≡ r
       all-ran : {r : ℕ} {d′ work′ : List ℕ} → r ≡ t + length (tilesFrom t count)
           → d′ ≡ walk (planSetting p (cutIn g) (c .alpha) (c .beta) a b) (tilesFrom t count) d
           → work′ ≡ packedLast (cutIn g) (readIn p a b) t count work
-          → gave (ran r (eqb r (g .total))) d′ work′ ≡ tileCall c z (three a b d) work t budget
+          → tileCallOf (ran r (eqb r (g .total))) d′ work′ ≡ tileCall c z (three a b d) work t budget
       unfolding ranCall
       all-ran {r} {d′} {work′} er ed ew =
           let w = three a b d in

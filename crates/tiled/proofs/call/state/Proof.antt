@@ -21,11 +21,11 @@ use Rattle.tiles.specs.declared.grid.Grid.{Grid}
 use Rattle.tiles.specs.Cut.{Cut}
 use Rattle.tiles.specs.Grid.{cutIn}
 use Rattle.tiles.specs.Progress.{State, stateAt}
-use Rattle.tile_blocks.specs.Setting.{cutOf}
+use Rattle.tile_blocks.specs.ContractionInTiles.{cutOf}
 use Rattle.tile_blocks.specs.Planned.{GridOf}
-use Rattle.tile_questions.specs.Questions.{sizeQuestion, doneQuestion, indexQuestion}
-use Rattle.tiled.specs.Call.{is, stateRefused, stateCall}
-use Rattle.tiled.proofs.Answered.{asked, state-early, state-late, state-found}
+use Rattle.tile_questions.specs.TileQuestions.{sizeQuestion, doneQuestion, indexQuestion}
+use Rattle.tiled.specs.TileCall.{is, stateRefused, stateCall}
+use Rattle.tiled.proofs.TileAnswered.{asked, state-early, state-late, state-found}
 use Rattle.tiled.proofs.Accepted.{none-refused, plan-asks, grid-asks, grid-cut}
 use Rattle.tiled.proofs.call.state.Statement.{statement}
 use Rattle.tiled.proofs.call.state.Tie as tie

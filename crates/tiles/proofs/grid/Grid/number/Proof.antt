@@ -6,7 +6,7 @@ use native.Mathlib.Omega.{arith}
 use borrow.Author.Needs.{needs}
 use Rattle.limits.specs.Limits.{productLimit}
 use Rattle.tiles.specs.declared.grid.Grid.{Grid}
-use Rattle.tiles.specs.Cut.{NB, KB, MB, number}
+use Rattle.tiles.specs.Cut.{NB, KB, MB, tileNumber}
 use Rattle.tiles.specs.Grid.{cutIn, Counted}
 use Rattle.tiles.proofs.Sizes.{number-small}
 use Rattle.tiles.proofs.grid.Grid.number.Statement.{statement}
@@ -48,7 +48,7 @@ add-result-3 : tie.Need-add-result-3
 add-result-3 c = omega (arith, steps (c .before .before .before .pre) .2)
 
 returns : tie.Need-returns
-unfolding number
+unfolding tileNumber
 returns c =
     let k = c .before .before .before .pre .0 in
     rw (k .«column_blocks», k .panels, k .«row_blocks») refl

@@ -9,7 +9,7 @@ use borrow.Author.Needs.{needs}
 use Rattle.limits.specs.Limits.{productLimit}
 use Rattle.tiles.specs.Cut.{Cut, cutBy, MB, NB, KB, total}
 use Rattle.tiles.specs.Grid.{Fits}
-use Rattle.tiles.proofs.Sizes.{M-small, N-small, K-small, columns-small, strips-small, total-small}
+use Rattle.tiles.proofs.Sizes.{M-small, N-small, K-small, columns-small, strips-small, sumOf-small}
 use Rattle.tiles.proofs.grid.Grid.of.Statement.{statement}
 use Rattle.tiles.proofs.grid.Grid.of.Tie as tie
 use Rattle.tiles.proofs.grid.Grid.of.Reads as reads
@@ -20,7 +20,7 @@ use Rattle.tiles.proofs.grid.blocks_in.Reads as blocks-in-reads
 products : {G : Cut} {r c p : ℕ} → Fits G → (r ≡ MB G) × (c ≡ NB G) × (p ≡ KB G)
     → (G .H * c ≤ productLimit) × (G .H * c * p ≤ productLimit) × (G .H * c * p * r ≤ productLimit) × (G .H * c * p * r ≡ total G)
 unfolding total
-products f (er, ec, ep) = rw (er, ec, ep) (columns-small f, strips-small f, total-small f, refl)
+products f (er, ec, ep) = rw (er, ec, ep) (columns-small f, strips-small f, sumOf-small f, refl)
 
 -- where the branch has ended, the numbers that `blocks_in` and it gave are those
 counted : (c : lts.Joined1 (blocks-in-reads.Asked, blocks-in-reads.Learnt) reads.Pre reads.Post)

@@ -11,7 +11,7 @@ use Rattle.tiles.specs.declared.grid.Grid.{Grid}
 use Rattle.tiles.specs.Cut.{total, batchOf, columnOf, panelOf, rowOf}
 use Rattle.tiles.specs.Grid.{cutIn, Counted}
 use Rattle.tiles.proofs.Numbering.{tile-of}
-use Rattle.tiles.proofs.Sizes.{total-small}
+use Rattle.tiles.proofs.Sizes.{sumOf-small}
 use Rattle.tiles.proofs.grid.Grid.tile.Statement.{statement}
 use Rattle.tiles.proofs.grid.Grid.tile.Tie as tie
 
@@ -26,7 +26,7 @@ module _ {g : Grid} {n : ℕ} (a : Counted g × (n < total (cutIn g))) where
   few : (n / g .«row_blocks» / g .panels / g .«column_blocks» < productLimit) × (n / g .«row_blocks» / g .panels % g .«column_blocks» < productLimit)
       × (n / g .«row_blocks» % g .panels < productLimit) × (n % g .«row_blocks» < productLimit)
   few =
-      let x : n < productLimit = lt-of-lt-of-le (a .1) (total-small (a .0 .fits)) in
+      let x : n < productLimit = lt-of-lt-of-le (a .1) (sumOf-small (a .0 .fits)) in
       let y : n / g .«row_blocks» < productLimit = lt-of-le-of-lt (div-le-self _ _) x in
       let z : n / g .«row_blocks» / g .panels < productLimit = lt-of-le-of-lt (div-le-self _ _) y in
       (lt-of-le-of-lt (div-le-self _ _) z, lt-of-le-of-lt (mod-le _ _) z, lt-of-le-of-lt (mod-le _ _) y, lt-of-le-of-lt (mod-le _ _) x)

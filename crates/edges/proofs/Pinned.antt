@@ -1,0 +1,52 @@
+-- All cases in one statement: each is proved where it stands.
+-- Assumes nothing.
+use Rattle.limits.proofs.LimitCases.{limit-cases}
+use Rattle.validity.proofs.TensorCases.{tensor-cases}
+use Rattle.points.proofs.LabelCases.{label-cases}
+use Rattle.contraction.proofs.OrderCases.{order-cases}
+use Rattle.questions.proofs.QuestionCases.{question-cases}
+use Rattle.groups.proofs.GroupCases.{group-cases}
+use Rattle.offsets.proofs.OffsetCases.{offset-cases}
+use Rattle.folding.proofs.FoldCases.{fold-cases}
+use Rattle.block.proofs.BlockCases.{block-cases}
+use Rattle.pack.proofs.PackedCases.{packed-cases}
+use Rattle.tiles.proofs.TileCases.{tile-cases}
+use Rattle.tile_questions.proofs.TileQuestionCases.{tile-question-cases}
+use Rattle.tiling.proofs.WorkCases.{work-cases}
+use Rattle.marks.proofs.MarkCases.{mark-cases}
+use Rattle.records.proofs.RecordCases.{record-cases}
+use Rattle.go.proofs.GoCases.{go-cases}
+use Rattle.jobfile.proofs.JobFileCases.{job-file-cases}
+use Rattle.states.proofs.LetterCases.{letter-cases}
+use Rattle.flat.proofs.StatusCases.{status-cases}
+use Rattle.edges.specs.Pinned.{Pinned}
+use Rattle.edges.proofs.Starred.{edges-hold}
+use Rattle.edges.proofs.LabelKinds.{label-kind-cases}
+use Rattle.edges.proofs.JobCases.{job-cases}
+
+pub pinned : Pinned
+pinned =
+    record {
+      limits = limit-cases;
+      one-tensor = tensor-cases;
+      all-labels = label-cases;
+      in-order = question-cases;
+      of-tiles = tile-question-cases;
+      starred = edges-hold;
+      letter-order = order-cases;
+      groups = group-cases;
+      counts = offset-cases;
+      folding = fold-cases;
+      label-kinds = label-kind-cases;
+      tile-numbers = tile-cases;
+      blocks = block-cases;
+      packed = packed-cases;
+      work = work-cases;
+      marks = mark-cases;
+      records = record-cases;
+      go = go-cases;
+      job-file = job-file-cases;
+      letters = letter-cases;
+      printed = job-cases;
+      numbers = status-cases;
+    }

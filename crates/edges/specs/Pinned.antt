@@ -1,0 +1,55 @@
+-- All cases that are computed, in one statement: a definition that is changed together with its code breaks the case that quotes its rule. Those that
+-- stand beside the definition are here by their crate.
+-- Assumes nothing.
+use Rattle.words.specs.Sums.{All}
+use Rattle.limits.specs.LimitCases.{LimitCases}
+use Rattle.validity.specs.TensorCases.{TensorCases}
+use Rattle.points.specs.LabelCases.{LabelCases}
+use Rattle.contraction.specs.OrderCases.{OrderCases}
+use Rattle.questions.specs.QuestionCases.{QuestionCases}
+use Rattle.groups.specs.GroupCases.{GroupCases}
+use Rattle.offsets.specs.OffsetCases.{OffsetCases}
+use Rattle.folding.specs.FoldCases.{FoldCases}
+use Rattle.block.specs.BlockCases.{BlockCases}
+use Rattle.pack.specs.PackedCases.{PackedCases}
+use Rattle.tiles.specs.TileCases.{TileCases}
+use Rattle.tile_questions.specs.TileQuestionCases.{TileQuestionCases}
+use Rattle.tiling.specs.WorkCases.{WorkCases}
+use Rattle.marks.specs.MarkCases.{MarkCases}
+use Rattle.records.specs.RecordCases.{RecordCases}
+use Rattle.go.specs.GoCases.{GoCases}
+use Rattle.jobfile.specs.JobFileCases.{JobFileCases}
+use Rattle.states.specs.LetterCases.{LetterCases}
+use Rattle.flat.specs.StatusCases.{StatusCases}
+use Rattle.edges.specs.Edges.{edges, Holds}
+use Rattle.edges.specs.LabelKinds.{LabelKindCases}
+use Rattle.edges.specs.JobCases.{JobCases}
+
+pub record Pinned : Type 0 where
+  pub limits : LimitCases
+  -- the questions
+  pub one-tensor : TensorCases
+  pub all-labels : LabelCases
+  pub in-order : QuestionCases
+  pub of-tiles : TileQuestionCases
+  -- what a contraction means: the ten starred cases of the rules, and one with every kind of label
+  pub starred : All Holds edges
+  pub letter-order : OrderCases
+  pub groups : GroupCases
+  pub counts : OffsetCases
+  pub folding : FoldCases
+  pub label-kinds : LabelKindCases
+  -- tiles
+  pub tile-numbers : TileCases
+  pub blocks : BlockCases
+  pub packed : PackedCases
+  pub work : WorkCases
+  -- the job file and what is printed
+  pub marks : MarkCases
+  pub records : RecordCases
+  pub go : GoCases
+  pub job-file : JobFileCases
+  pub letters : LetterCases
+  pub printed : JobCases
+  -- the numbers of the calls for C and Rust
+  pub numbers : StatusCases

@@ -1,0 +1,19 @@
+-- What is read of two job files, by computation.
+-- Assumes nothing.
+use mathlib.Core.Path.{refl}
+use Rattle.layout.specs.Layout.{axesOf, layoutOf, axes}
+use Rattle.little_endian.specs.Bytes.{little, numbers}
+use Rattle.records.specs.Records.{layoutAt, layoutRecord, wordsRecord, wordsAfter, tensorRecords}
+use Rattle.go.specs.Record.{goAt, goRecord}
+use Rattle.jobfile.specs.Format.{fromGo, fromD, fromB, readJob}
+use Rattle.jobfile.specs.JobFileCases.{JobFileCases}
+
+pub job-file-cases : JobFileCases
+unfolding axesOf layoutOf axes little numbers layoutAt layoutRecord wordsRecord wordsAfter tensorRecords goAt goRecord fromGo fromD fromB readJob
+job-file-cases =
+    record {
+      example = refl;
+      skewed = refl;
+      empty = refl;
+      longer = refl;
+    }

@@ -1,0 +1,63 @@
+-- Two job files, byte by byte, and what is read.
+-- Assumes nothing.
+use Prim.Native.Nat.{ℕ, _/_, _%_}
+use mathlib.Core.Path.{_≡_}
+use mathlib.Core.List.{List, [], _∷_, _++_}
+use lib.IntN.{pos, negsuc}
+use Rattle.words.specs.Texts.{codes}
+use Rattle.layout.specs.Layout.{layoutOf}
+use Rattle.records.specs.Records.{got, fileRefused, tensor}
+use Rattle.jobfile.specs.Format.{Job, jobOf, readJob}
+
+-- a number in two bytes, and in four, the least significant first
+abbrev two : ℕ → List ℕ
+two n = n % 256 ∷ n / 256 % 256 ∷ []
+
+abbrev four : ℕ → List ℕ
+four n = two n ++ two (n / 65536)
+
+-- numbers of four bytes each
+abbrev fours : List ℕ → List ℕ
+fours [] = []
+fours (n ∷ ns) = four n ++ fours ns
+
+-- "A `ik`, extents 2 3, strides 1 2, words 1 2 3 4 5 6; B `kj`, 3 2, 1 3, words 1 0 2 0 1 1; D `ij`, 2 2, 1 2, words 100 200 300 400; bases 0, alpha 1, beta 2,
+-- rows 1, cols 1, depth 2, done 0, budget 3": the rules' example, as a file and as a job
+abbrev pub exampleFile : List ℕ
+exampleFile =
+    codes "LA" ++ 2 ∷ codes "ik" ++ fours (2 ∷ 3 ∷ 1 ∷ 2 ∷ 0 ∷ []) ++ codes "WA" ++ fours (6 ∷ 1 ∷ 2 ∷ 3 ∷ 4 ∷ 5 ∷ 6 ∷ [])
+    ++ codes "LB" ++ 2 ∷ codes "kj" ++ fours (3 ∷ 2 ∷ 1 ∷ 3 ∷ 0 ∷ []) ++ codes "WB" ++ fours (6 ∷ 1 ∷ 0 ∷ 2 ∷ 0 ∷ 1 ∷ 1 ∷ [])
+    ++ codes "LD" ++ 2 ∷ codes "ij" ++ fours (2 ∷ 2 ∷ 1 ∷ 2 ∷ 0 ∷ []) ++ codes "WD" ++ fours (4 ∷ 100 ∷ 200 ∷ 300 ∷ 400 ∷ [])
+    ++ codes "GO" ++ four 1 ++ four 2 ++ two 1 ++ two 1 ++ two 2 ++ four 0 ++ four 3
+
+abbrev pub exampleJob : Job
+exampleJob =
+    jobOf
+    (tensor (layoutOf (codes "ik") (2 ∷ 3 ∷ []) (pos 1 ∷ pos 2 ∷ []) 0) (1 ∷ 2 ∷ 3 ∷ 4 ∷ 5 ∷ 6 ∷ []))
+    (tensor (layoutOf (codes "kj") (3 ∷ 2 ∷ []) (pos 1 ∷ pos 3 ∷ []) 0) (1 ∷ 0 ∷ 2 ∷ 0 ∷ 1 ∷ 1 ∷ []))
+    (tensor (layoutOf (codes "ij") (2 ∷ 2 ∷ []) (pos 1 ∷ pos 2 ∷ []) 0) (100 ∷ 200 ∷ 300 ∷ 400 ∷ []))
+    (record { alpha = 1; beta = 2; sizes = record { rows = 1; cols = 1; depth = 2 }; done = 0; budget = 3 })
+
+-- A's words as bytes; B's first stride -1, from base 1 on; a word of D that the layout skips; 2 rows and 1 column
+abbrev pub skewedFile : List ℕ
+skewedFile =
+    codes "LA" ++ 2 ∷ codes "ik" ++ fours (2 ∷ 2 ∷ 1 ∷ 2 ∷ 0 ∷ []) ++ codes "YA" ++ four 4 ++ 1 ∷ 2 ∷ 3 ∷ 4 ∷ []
+    ++ codes "LB" ++ 2 ∷ codes "kj" ++ fours (2 ∷ 2 ∷ 4294967295 ∷ 2 ∷ 1 ∷ []) ++ codes "WB" ++ fours (4 ∷ 5 ∷ 6 ∷ 7 ∷ 8 ∷ [])
+    ++ codes "LD" ++ 2 ∷ codes "ij" ++ fours (2 ∷ 2 ∷ 1 ∷ 3 ∷ 0 ∷ []) ++ codes "WD" ++ fours (5 ∷ 10 ∷ 20 ∷ 30 ∷ 40 ∷ 50 ∷ [])
+    ++ codes "GO" ++ four 2 ++ four 3 ++ two 2 ++ two 1 ++ two 2 ++ four 0 ++ four 1
+
+abbrev pub skewedJob : Job
+skewedJob =
+    jobOf
+    (tensor (layoutOf (codes "ik") (2 ∷ 2 ∷ []) (pos 1 ∷ pos 2 ∷ []) 0) (1 ∷ 2 ∷ 3 ∷ 4 ∷ []))
+    (tensor (layoutOf (codes "kj") (2 ∷ 2 ∷ []) (negsuc 0 ∷ pos 2 ∷ []) 1) (5 ∷ 6 ∷ 7 ∷ 8 ∷ []))
+    (tensor (layoutOf (codes "ij") (2 ∷ 2 ∷ []) (pos 1 ∷ pos 3 ∷ []) 0) (10 ∷ 20 ∷ 30 ∷ 40 ∷ 50 ∷ []))
+    (record { alpha = 2; beta = 3; sizes = record { rows = 2; cols = 1; depth = 2 }; done = 0; budget = 1 })
+
+pub record JobFileCases : Type 0 where
+  -- "Records in the order A layout, A words, B layout, B words, D layout, D words, go"
+  pub example : readJob exampleFile ≡ got exampleJob 181
+  pub skewed : readJob skewedFile ≡ got skewedJob 157
+  -- "After `GO`, has the file ended? 22. An empty file gives 21"
+  pub empty : readJob [] ≡ fileRefused 21
+  pub longer : readJob (exampleFile ++ 0 ∷ []) ≡ fileRefused 22

@@ -1,0 +1,22 @@
+-- Demand 2: what D's words are after a contraction that questions 1 to 9 accept.
+-- Assumes nothing.
+use Prim.Native.Nat.{ℕ}
+use mathlib.Core.Path.{_≡_}
+use mathlib.Core.List.{List}
+use mathlib.Core.Logic.{_≢_}
+use lib.ListN.{length, getD}
+use Rattle.layout.specs.Layout.{axes, address}
+use Rattle.entries.specs.Bounds.{InRange}
+use Rattle.contraction.specs.declared.contraction.Contraction.{Contraction}
+use Rattle.contraction.specs.Operands.{D, tensors}
+use Rattle.meaning.specs.Meaning.{Slices, firstNo, value, result}
+
+-- of D's words afterwards: each word that D's layout addresses is the value at its index, every other word has its old value
+pub record Demand2 (c : Contraction) (w : Slices) (after : List ℕ) : Type 0 where
+  pub addressed : (ρ : ℕ → ℕ) → InRange (axes (tensors c D)) ρ → getD after (address (tensors c D) ρ) 0 ≡ value c w ρ
+  pub others : (p : ℕ) → ((ρ : ℕ → ℕ) → InRange (axes (tensors c D)) ρ → address (tensors c D) ρ ≢ p) → getD after p 0 ≡ getD (w D) p 0
+  pub same-length : length after ≡ length (w D)
+
+-- for every contraction and all slices that questions 1 to 9 pass, demand 2 holds of the result
+abbrev pub ResultMeetsDemand2 : Type 0
+ResultMeetsDemand2 = (c : Contraction) (w : Slices) → firstNo c w ≡ 0 → Demand2 c w (result c w)

@@ -1,0 +1,38 @@
+ghost use Prim.Native.Nat.{_≤_};
+ghost use Rattle.limits.specs.Limits.{axesLimit};
+ghost use Rattle.groups.specs.Held.{labelsIn};
+ghost use Rattle.offsets.specs.FirstLabel.{FirstLabelOf};
+use super::offsets::Offsets;
+use groups::groups::Group;
+
+// A group's first label, which runs fastest: from one count to the next is a step, `len` counts on end.
+pub struct FirstLabel {
+    pub step: Offsets,
+    pub len: u32,
+}
+
+impl FirstLabel {
+    pub fn of(g: Group) -> FirstLabel
+        requires { ⌜ g .count ≤ axesLimit ⌝ }
+        ensures { λ r. ⌜ FirstLabelOf (labelsIn g) r ⌝ }
+    {
+        if g.count == 0 {
+            let still = Offsets { a: 0, b: 0, d: 0 };
+            return FirstLabel {
+                step: still,
+                len: 1,
+            };
+        }
+        let dims = g.dims;
+        let l = dims[0];
+        let step = Offsets {
+            a: l.a,
+            b: l.b,
+            d: l.d,
+        };
+        FirstLabel {
+            step,
+            len: l.extent,
+        }
+    }
+}

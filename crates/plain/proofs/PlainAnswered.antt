@@ -1,0 +1,24 @@
+-- What a call answers and leaves, where a question refused and where all passed.
+-- Assumes nothing.
+use mathlib.Core.Path.{_≡_, sym, ap, _∙_}
+use mathlib.Core.List.{List}
+use Prim.Native.Nat.{ℕ}
+use Rattle.contraction.specs.declared.contraction.Contraction.{Contraction}
+use Rattle.contraction.specs.Operands.{Operand, D, three, tensors, lengths}
+use Rattle.contraction.proofs.SliceLengths.{lengthsOf, slice-lengths}
+use Rattle.questions.specs.Questions.{refusal, layoutQuestions}
+use Rattle.questions.proofs.Refusal.{answers-no, answers-yes}
+use Rattle.meaning.specs.Meaning.{Slices, firstNo, result}
+use Rattle.plain.specs.PlainCall.{plainDone, plainRefused, plainCallOf, plainCall}
+
+pub asked : (c : Contraction) (a b d : List ℕ) {k : ℕ} → k ≡ refusal (layoutQuestions (tensors c) (lengths (lengthsOf a b d))) → k ≡ firstNo c (three a b d)
+asked c a b d e = e ∙ ap (λ (n : Operand → ℕ). refusal (layoutQuestions (tensors c) n)) (slice-lengths a b d)
+
+module _ (c : Contraction) (w : Slices) {k : ℕ} (e : k ≡ firstNo c w) where
+  pub call-refused : (k ≡ 0 → ⊥) → plainCallOf (plainRefused k) (w D) ≡ plainCall c w
+  unfolding plainCall
+  call-refused = answers-no (plainCallOf plainDone (result c w)) (λ n. plainCallOf (plainRefused n) (w D)) (sym e)
+
+  pub call-done : k ≡ 0 → plainCallOf plainDone (result c w) ≡ plainCall c w
+  unfolding plainCall
+  call-done h = answers-yes (plainCallOf plainDone (result c w)) (λ n. plainCallOf (plainRefused n) (w D)) (sym e ∙ h)

@@ -1,0 +1,68 @@
+-- `extents_agree` meets its contract. The loop goes from the last axis to the first, as `every` does; its invariant: the answer so far
+-- is the test of the axes from i on. The measure is i.
+-- Assumes nothing.
+use mathlib.Core.Path.{_≡_}
+use Prim.Native.Nat.{_≤_}
+use native.Mathlib.Omega.{arith}
+use borrow.Author.Needs.{needs}
+use lib.Dec.{eqb}
+use Rattle.words.specs.Sums.{every}
+use Rattle.words.proofs.Tabulate.{from, from-end, from-before}
+use Rattle.layout.specs.Layout.{noAxis}
+use Rattle.layout.specs.Listed.{listed}
+use Rattle.labels.specs.Labels.{extentOf}
+use Rattle.points.specs.LabelQuestions.{extentsAgree}
+use Rattle.points.proofs.label_questions.extents_agree.Statement.{statement}
+use Rattle.points.proofs.label_questions.extents_agree.Tie as tie
+
+abbrev Inv-loop : tie.InvT-loop
+Inv-loop x items i₀ agree₀ i agree = (i ≤ i₀) × (agree ≡ every (λ a. eqb (a .extent) (extentOf (a .letter) (listed x))) (from noAxis items i₀ i))
+
+abbrev μ-loop : tie.MeasureT-loop
+μ-loop x items i₀ agree₀ i agree = i
+
+loop-holds : tie.Need-loop-holds Inv-loop μ-loop
+loop-holds c = (omega arith, rw (from-end noAxis (c .before .args .x .items) (c .before .args .x .count)))
+
+sub-i : tie.Need-sub-i Inv-loop μ-loop
+sub-i c = omega arith
+
+mul-a : tie.Need-mul-a Inv-loop μ-loop
+mul-a c = omega arith
+
+array-copy-out-a : tie.Need-array-copy-out-a Inv-loop μ-loop
+array-copy-out-a c = omega arith
+
+extent-of-requires : tie.Need-extent-of-requires Inv-loop μ-loop
+extent-of-requires c κs = search needs
+
+loop-less : tie.Need-loop-less Inv-loop μ-loop
+loop-less c = omega arith
+
+loop-again : tie.Need-loop-again Inv-loop μ-loop
+loop-again c =
+    let l = c .before .before .before .before .loop in
+    let x = c .before .before .before .before .before .before .args .x in
+    (omega arith, rw (c .before .extent-of .ensures, l .inv .1, from-before noAxis (x .items) (x .count) (l .i) (omega arith) (omega arith)))
+
+returns : tie.Need-returns Inv-loop μ-loop
+unfolding extentsAgree listed
+returns c =
+    let l = c .before .loop in
+    let z : l .i ≡ 0 = omega arith in
+    rw (l .inv .1, z)
+
+pub extents-agree-spec : {M : Type 1} → statement M
+extents-agree-spec =
+    tie.close
+    (tie.spec
+    Inv-loop
+    μ-loop
+    loop-holds
+    sub-i
+    mul-a
+    array-copy-out-a
+    extent-of-requires
+    loop-less
+    loop-again
+    returns)

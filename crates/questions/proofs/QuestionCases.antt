@@ -1,0 +1,27 @@
+-- The numbers of questions 1 to 9 and their order, by computation.
+-- Assumes nothing.
+use mathlib.Core.Path.{refl}
+use Rattle.layout.specs.Layout.{axesOf, layoutOf, axes}
+use Rattle.validity.specs.TensorQuestions.{rankFits, countsMatch, lettersValid, extentsValid, stridesValid, sizesValid}
+use Rattle.labels.specs.Labels.{labels}
+use Rattle.points.specs.LabelQuestions.{extentsAgree, points, pointsFit}
+use Rattle.entries.specs.EntryQuestions.{span, inside, below, apart}
+use Rattle.contraction.specs.Operands.{together}
+use Rattle.questions.specs.Questions.{tensorQuestions, labelQuestions, entryQuestions, layoutQuestions}
+use Rattle.questions.specs.QuestionCases.{QuestionCases}
+
+pub question-cases : QuestionCases
+unfolding axesOf layoutOf axes rankFits countsMatch lettersValid extentsValid stridesValid sizesValid labels extentsAgree points pointsFit span inside below apart together tensorQuestions labelQuestions entryQuestions layoutQuestions
+question-cases =
+    record {
+      accepted = refl;
+      rank-1 = refl;
+      counts-2 = refl;
+      letter-3 = refl;
+      extent-4 = refl;
+      base-5 = refl;
+      agree-6 = refl;
+      points-7 = refl;
+      inside-8 = refl;
+      apart-9 = refl;
+    }

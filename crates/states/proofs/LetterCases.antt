@@ -1,0 +1,10 @@
+-- The letters of the states, by computation.
+-- Assumes nothing.
+use mathlib.Core.Path.{refl}
+use Rattle.states.specs.LetterCases.{LetterCases}
+
+pub letter-cases : LetterCases
+letter-cases =
+    record {
+      printed = refl;
+    }

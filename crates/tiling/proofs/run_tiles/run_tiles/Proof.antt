@@ -1,0 +1,123 @@
+-- `run_tiles` meets its contract. The invariant: from `done` to t each tile was run, so D's words are those that they leave, one after the other,
+-- and the work slice holds the blocks of the last one. A turn runs tile t. The measure is how many are left.
+-- Assumes nothing.
+use mathlib.Core.Path.{_≡_, ap, sym, _∙_, subst}
+use mathlib.Core.List.{List}
+use Prim.Native.Nat.{ℕ, suc, _+_, _-_, _≤_}
+use native.Mathlib.Omega.{arith}
+use lib.ListN.{length}
+use Rattle.words.proofs.Tabulate.{length-tabulate}
+use Rattle.plan.specs.declared.plan.Plan.{Plan}
+use Rattle.tiles.specs.Cut.{Cut}
+use Rattle.tiles.specs.Grid.{cutIn}
+use Rattle.tiles.specs.Setting.{Setting, tileStep, walk, tilesFrom}
+use Rattle.tiles.proofs.Sizes.{sumOf-small}
+use Rattle.tiles.proofs.Closed.{length-walk, walk-next}
+use Rattle.tile_blocks.specs.Planned.{readIn, planSetting, Clear}
+use Rattle.tiling.specs.Work.{packed, packedLast}
+use Rattle.tiling.proofs.PackedWork.{packs, packed-none, packed-next, length-last}
+use Rattle.tiling.proofs.run_tiles.run_tiles.Statement.{statement}
+use Rattle.tiling.proofs.run_tiles.run_tiles.Tie as tie
+
+-- the tiles from `done` up to t were run
+module _ (p : Plan) (G : Cut) (alpha beta : ℕ) (a b : List ℕ) (done : ℕ) (d₀ work₀ : List ℕ) where
+  abbrev S : Setting
+  S = planSetting p G alpha beta a b
+
+  abbrev blocksOf : ℕ → List ℕ
+  blocksOf n = packedLast G (readIn p a b) done n work₀
+
+  record Run (t : ℕ) (d work : List ℕ) : Type 0 where
+    from : done ≤ t
+    words : d ≡ walk S (tilesFrom done (t - done)) d₀
+    blocks : work ≡ blocksOf (t - done)
+
+  same-d : {t : ℕ} {d work : List ℕ} → Run t d work → length d ≡ length d₀
+  same-d {t} r = ap length (r .words) ∙ length-walk S (tilesFrom done (t - done)) d₀
+
+  same-work : {t : ℕ} {d work : List ℕ} → packs G ≤ length work₀ → Run t d work → length work ≡ length work₀
+  same-work {t} h r = ap length (r .blocks) ∙ length-last G (readIn p a b) done (t - done) work₀ h
+
+  none : Run done d₀ work₀
+  unfolding tilesFrom walk
+  none =
+      let e : done - done ≡ 0 = omega arith in
+      record { from = omega arith; words = rw e; blocks = rw e (sym (packed-none G (readIn p a b) done work₀)) }
+
+  next : {t : ℕ} {d work d′ work′ : List ℕ} → Run t d work → d′ ≡ tileStep S t d → work′ ≡ packed G (readIn p a b) t work → Run (t + 1) d′ work′
+  next {t} r e f =
+      let n = t - done in
+      let h : done + n ≡ t = omega (arith, r .from) in
+      let k : suc n ≡ t + 1 - done = omega (arith, r .from) in
+      record {
+        from = omega (arith, r .from);
+        words =
+            e ∙ ap (tileStep S t) (r .words)
+            ∙ ap (λ (m : ℕ). tileStep S m (walk S (tilesFrom done n) d₀)) (sym h)
+            ∙ sym (walk-next S done n d₀)
+            ∙ ap (λ (m : ℕ). walk S (tilesFrom done m) d₀) k;
+        blocks =
+            f ∙ ap (packed G (readIn p a b) t) (r .blocks)
+            ∙ ap (λ (m : ℕ). packed G (readIn p a b) m (blocksOf n)) (sym h)
+            ∙ packed-next G (readIn p a b) done n work₀
+            ∙ ap blocksOf k;
+      }
+
+abbrev Inv-loop : tie.InvT-loop
+Inv-loop p g alpha beta a b d₀ work₀ done count end t₀ d work t = (t ≤ end) × Run p (cutIn g) alpha beta a b done d₀ work₀ t d work
+
+abbrev μ-loop : tie.MeasureT-loop
+μ-loop p g alpha beta a b d₀ work₀ done count end t₀ d work t = end - t
+
+add-end : tie.Need-add-end Inv-loop μ-loop
+add-end c = let q = c .before .before .before .before .pre in omega (arith, sumOf-small (q .0 .counted .fits))
+
+loop-holds : tie.Need-loop-holds Inv-loop μ-loop
+loop-holds c = (omega arith, none _ _ _ _ _ _ _ _ _)
+
+run-tile-requires : tie.Need-run-tile-requires Inv-loop μ-loop
+run-tile-requires c κs =
+    let q = c .before .before .before .before .before .before .before .before .pre in
+    let r = c .before .before .before .loop .inv .1 in
+    (q .0, omega arith, subst (Clear _ _ _ _) (sym (same-d _ _ _ _ _ _ _ _ _ r)) (q .2), omega (arith, same-work _ _ _ _ _ _ _ _ _ (q .3) r))
+
+add-t : tie.Need-add-t Inv-loop μ-loop
+add-t c = let q = c .before .before .before .before .before .before .before .before .before .before .before .before .before .pre in omega (arith, sumOf-small (q .0 .counted .fits))
+
+loop-less : tie.Need-loop-less Inv-loop μ-loop
+loop-less c = omega arith
+
+loop-again : tie.Need-loop-again Inv-loop μ-loop
+loop-again c =
+    let r = c .before .before .before .before .run-tile .ensures in
+    (omega arith, next _ _ _ _ _ _ _ _ _ (c .before .before .before .before .before .before .before .before .loop .inv .1) (r .0) (r .1))
+
+same-length : tie.Need-same-length Inv-loop μ-loop
+same-length c = same-d _ _ _ _ _ _ _ _ _ (c .before .loop .inv .1)
+
+same-length-2 : tie.Need-same-length-2 Inv-loop μ-loop
+same-length-2 c = same-work _ _ _ _ _ _ _ _ _ (c .before .before .before .before .before .before .pre .3) (c .before .loop .inv .1)
+
+returns : tie.Need-returns Inv-loop μ-loop
+unfolding tilesFrom
+returns c =
+    let s = c .before .before .before .before .before .before .args in
+    let r = c .before .loop .inv .1 in
+    let e : c .before .loop .t - s .done ≡ s .count = omega arith in
+    (omega (arith, length-tabulate (s .count) (λ k. s .done + k)), rw e at (r .words), rw e at (r .blocks))
+
+pub run-tiles-spec : {M : Type 1} → statement M
+run-tiles-spec =
+    tie.close
+    (tie.spec
+    Inv-loop
+    μ-loop
+    add-end
+    loop-holds
+    run-tile-requires
+    add-t
+    loop-less
+    loop-again
+    same-length
+    same-length-2
+    returns)

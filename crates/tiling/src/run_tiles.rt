@@ -1,0 +1,42 @@
+ghost use mathlib.Core.Path.{_≡_};
+ghost use Prim.Native.Nat.{_+_, _*_, _≤_};
+ghost use lib.ListN.{length};
+ghost use Rattle.tiles.specs.Cut.{total};
+ghost use Rattle.tiles.specs.Grid.{cutIn};
+ghost use Rattle.tiles.specs.Setting.{walk, tilesFrom};
+ghost use Rattle.tile_blocks.specs.Planned.{GridOf, Clear, readIn, planSetting};
+ghost use Rattle.tiling.specs.Work.{packedLast};
+use super::tile::run_tile;
+use plan::plan::Plan;
+use tiles::grid::Grid;
+
+// The tiles from number `done` on, `count` of them; the new count of tiles done.
+pub fn run_tiles(
+    p: Plan,
+    g: Grid,
+    alpha: u32,
+    beta: u32,
+    a: &[u32],
+    b: &[u32],
+    d: &mut [u32],
+    work: &mut [u32],
+    done: u64,
+    count: u64,
+) -> u64
+    requires { ⌜ GridOf p g
+        × (done + count ≤ total (cutIn g))
+        × Clear p (cutIn g) (length (now a)) (length (now b)) (length (now d))
+        × (g .sizes .rows * g .sizes .depth + g .sizes .cols * g .sizes .depth ≤ length (now work)) ⌝ }
+    ensures { λ r. ⌜ (r ≡ done + length (tilesFrom done count))
+        × (now (d .exit)
+        ≡ walk (planSetting p (cutIn g) alpha beta (now (a .entry)) (now (b .entry))) (tilesFrom done count) (now (d .entry)))
+        × (now (work .exit) ≡ packedLast (cutIn g) (readIn p (now (a .entry)) (now (b .entry))) done count (now (work .entry))) ⌝ }
+{
+    let end = done + count;
+    let mut t = done;
+    while t < end {
+        run_tile(p, g, alpha, beta, a, b, d, work, t);
+        t += 1;
+    }
+    t
+}
