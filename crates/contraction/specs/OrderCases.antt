@@ -8,8 +8,8 @@ use Rattle.layout.specs.declared.layout.Axis.{Axis}
 use Rattle.layout.specs.Layout.{lettersOf}
 use Rattle.contraction.specs.Operands.{three, together}
 
--- axes of those letters
-abbrev lettered : List ℕ → List Axis
+-- axes of those letters, of extent 2 and stride 1
+abbrev pub lettered : List ℕ → List Axis
 lettered cs = map (λ c. record { letter = c; extent = 2; stride = pos 1 }) cs
 
 pub record OrderCases : Type 0 where

@@ -35,7 +35,7 @@ use Rattle.states.specs.StateLetters.{stateLetters}
 use Rattle.report.specs.Text.{digitsOf, decimal, refusedText, tilesLine, wordLine, wordLines, reportText}
 use Rattle.job_call.specs.Answer.{answerText, callText}
 use Rattle.job.specs.Run.{runText, readingText, jobText}
-use Rattle.edges.specs.JobCases.{JobCases}
+use Rattle.edges.specs.JobCases.{exampleText, skewedText, JobCases}
 
 -- the text of a job's call with a work slice
 unfoldable calledWith : Job → List ℕ → List ℕ
@@ -52,13 +52,9 @@ read-text : (file : List ℕ) {j : Job} {end : ℕ} → readJob file ≡ got j e
 unfolding calledWith runText readingText jobText
 read-text file read = ap readingText read
 
-example-called : (work : List ℕ) → length work ≡ workRoom → calledWith exampleJob work ≡ codes "tiles 3 of 8\n211 f\n402 p\n300 o\n400 o\n"
+both-called : (work : List ℕ) → length work ≡ workRoom → (calledWith exampleJob work ≡ exampleText) × (calledWith skewedJob work ≡ skewedText)
 unfolding calledWith each put sumTo axesOf layoutOf axes address rankFits countsMatch lettersValid extentsValid stridesValid sizesValid labels extentsAgree points pointsFit span inside below apart together tensorQuestions labelQuestions entryQuestions layoutQuestions groupOf inGroup group index entry blocks width MB NB KB total tileNumber batchOf columnOf panelOf rowOf done doneCount stateAt panelSum render addPanel tileAt tileStep walk tilesFrom addressAt entryAt setting sizesFit sizeQuestion roomQuestion doneQuestion acceptQuestions tileQuestions ranCall tileCall stateLetters digitsOf refusedText tilesLine wordLine wordLines reportText answerText callText
-example-called work e = rw e refl
-
-skewed-called : (work : List ℕ) → length work ≡ workRoom → calledWith skewedJob work ≡ codes "tiles 1 of 2\n72 f\n124 f\n30 -\n40 o\n50 o\n"
-unfolding calledWith each put sumTo axesOf layoutOf axes address rankFits countsMatch lettersValid extentsValid stridesValid sizesValid labels extentsAgree points pointsFit span inside below apart together tensorQuestions labelQuestions entryQuestions layoutQuestions groupOf inGroup group index entry blocks width MB NB KB total tileNumber batchOf columnOf panelOf rowOf done doneCount stateAt panelSum render addPanel tileAt tileStep walk tilesFrom addressAt entryAt setting sizesFit sizeQuestion roomQuestion doneQuestion acceptQuestions tileQuestions ranCall tileCall stateLetters digitsOf refusedText tilesLine wordLine wordLines reportText answerText callText
-skewed-called work e = rw e refl
+both-called work e = rw e (refl, refl)
 
 refused-21 : refusedText 21 ≡ codes "refused 21\n"
 unfolding digitsOf refusedText
@@ -72,8 +68,8 @@ pub job-cases : JobCases
 unfolding readingText jobText
 job-cases =
     record {
-      example = read-text exampleFile (job-file-cases .example) ∙ called-with exampleJob workRoom example-called;
-      skewed = read-text skewedFile (job-file-cases .skewed) ∙ called-with skewedJob workRoom skewed-called;
+      example = read-text exampleFile (job-file-cases .example) ∙ called-with exampleJob workRoom (λ work e. both-called work e .0);
+      skewed = read-text skewedFile (job-file-cases .skewed) ∙ called-with skewedJob workRoom (λ work e. both-called work e .1);
       decimals = in-decimals;
       empty = ap readingText (job-file-cases .empty) ∙ refused-21;
     }

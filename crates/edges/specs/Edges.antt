@@ -8,8 +8,10 @@ use Rattle.layout.specs.declared.layout.Layout.{Layout}
 use Rattle.layout.specs.Layout.{layoutOf}
 use Rattle.contraction.specs.declared.contraction.Contraction.{Contraction}
 use Rattle.contraction.specs.Operands.{three, contractionOf}
+use Rattle.questions.specs.QuestionCases.{scalar}
 use Rattle.groups.specs.Groups.{Label}
 use Rattle.folding.specs.Fold.{fold}
+use Rattle.folding.specs.FoldCases.{lab}
 use Rattle.meaning.specs.Meaning.{Slices, firstNo, result}
 use Rattle.block.specs.Block.{Step, even, scattered, classify}
 
@@ -26,10 +28,7 @@ Holds (folds g folded) = fold g ≡ folded
 Holds (spaced xs s) = classify xs ≡ s
 Holds (asked c w n) = firstNo c w ≡ n
 
--- no letters; one letter `i`; letters `i` and `j`
-abbrev scalar : Layout
-scalar = layoutOf [] [] [] 0
-
+-- one letter `i`; letters `i` and `j`
 abbrev vector : ℕ → ℤ → ℕ → Layout
 vector e s base = layoutOf (105 ∷ []) (e ∷ []) (s ∷ []) base
 
@@ -43,10 +42,6 @@ diagonal e s f u = layoutOf (105 ∷ 105 ∷ []) (e ∷ f ∷ []) (s ∷ u ∷ [
 -- alpha 1, beta 0
 abbrev plain : Layout → Layout → Layout → Contraction
 plain a b d = contractionOf a b d 1 0
-
--- a label with its stride in A, in B and in D
-abbrev lab : ℕ → ℕ → ℤ → ℤ → ℤ → Label
-lab c e a b d = record { letter = c; extent = e; stride = three a b d }
 
 abbrev pub edges : List Edge
 edges =

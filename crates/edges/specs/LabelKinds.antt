@@ -20,11 +20,11 @@ use Rattle.tile_blocks.specs.ContractionInTiles.{cutOf, addressAt}
 use Rattle.tiled.specs.TileCall.{StateAnswer, is, stateCall}
 
 -- four letters of extent 2 in 16 words
-abbrev lettered : List ℕ → Layout
-lettered cs = layoutOf cs (2 ∷ 2 ∷ 2 ∷ 2 ∷ []) (pos 1 ∷ pos 2 ∷ pos 4 ∷ pos 8 ∷ []) 0
+abbrev fourLetters : List ℕ → Layout
+fourLetters cs = layoutOf cs (2 ∷ 2 ∷ 2 ∷ 2 ∷ []) (pos 1 ∷ pos 2 ∷ pos 4 ∷ pos 8 ∷ []) 0
 
 abbrev kinds : Contraction
-kinds = contractionOf (lettered (codes "pikh")) (lettered (codes "qkhj")) (lettered (codes "jxhi")) 1 0
+kinds = contractionOf (fourLetters (codes "pikh")) (fourLetters (codes "qkhj")) (fourLetters (codes "jxhi")) 1 0
 
 abbrev sizes : Sizes
 sizes = record { rows = 3; cols = 1; depth = 3 }

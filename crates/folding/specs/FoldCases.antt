@@ -9,7 +9,7 @@ use Rattle.groups.specs.Groups.{Label}
 use Rattle.folding.specs.Fold.{fold}
 
 -- a label with its stride in A, in B and in D
-abbrev lab : ℕ → ℕ → ℤ → ℤ → ℤ → Label
+abbrev pub lab : ℕ → ℕ → ℤ → ℤ → ℤ → Label
 lab c e a b d = record { letter = c; extent = e; stride = three a b d }
 
 pub record FoldCases : Type 0 where

@@ -4,14 +4,10 @@
 use Prim.Native.Nat.{ℕ}
 use mathlib.Core.Path.{_≡_}
 use mathlib.Core.List.{List, map}
-use lib.IntN.{pos}
 use Rattle.words.specs.Texts.{codes}
-use Rattle.layout.specs.declared.layout.Axis.{Axis}
 use Rattle.contraction.specs.Operands.{Shape, three}
+use Rattle.contraction.specs.OrderCases.{lettered}
 use Rattle.groups.specs.Groups.{Group, batch, row, column, depth, group, size}
-
-abbrev lettered : List ℕ → List Axis
-lettered cs = map (λ c. record { letter = c; extent = 2; stride = pos 1 }) cs
 
 -- A `pikh`, B `qkhj`, D `jxhi`, all extents 2
 abbrev everyKind : Shape

@@ -10,7 +10,8 @@ use Rattle.layout.specs.Layout.{layoutOf}
 use Rattle.contraction.specs.Operands.{three}
 use Rattle.questions.specs.Questions.{refusal, layoutQuestions}
 
-abbrev scalar : Layout
+-- no letters: one entry, at the base
+abbrev pub scalar : Layout
 scalar = layoutOf [] [] [] 0
 
 -- the answer where A has this layout and a slice of n words, and where D has

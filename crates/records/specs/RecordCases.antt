@@ -3,7 +3,7 @@
 use Prim.Native.Nat.{ℕ}
 use mathlib.Core.Path.{_≡_}
 use mathlib.Core.List.{List, [], _∷_, _++_}
-use lib.IntN.{pos, negsuc}
+use lib.IntN.{negsuc}
 use Rattle.words.specs.Texts.{codes}
 use Rattle.layout.specs.Layout.{layoutOf}
 use Rattle.marks.specs.Marks.{letterA}

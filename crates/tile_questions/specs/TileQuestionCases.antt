@@ -4,27 +4,19 @@ use Prim.Native.Nat.{ℕ}
 use mathlib.Core.Path.{_≡_}
 use mathlib.Core.Bool.{true, false}
 use mathlib.Core.List.{List, [], _∷_}
-use Rattle.layout.specs.declared.layout.Layout.{Layout}
-use Rattle.layout.specs.Layout.{layoutOf}
 use Rattle.contraction.specs.declared.contraction.Contraction.{Contraction}
 use Rattle.contraction.specs.Operands.{three, contractionOf}
 use Rattle.questions.specs.Questions.{refusal}
+use Rattle.questions.specs.QuestionCases.{scalar}
 use Rattle.meaning.specs.Meaning.{Slices}
 use Rattle.tiles.specs.declared.grid.Sizes.{Sizes}
-use Rattle.tiles.specs.Cut.{Cut}
+use Rattle.tiles.specs.TileCases.{small}
 use Rattle.tile_questions.specs.TileQuestions.{sizesFit, workFits, isIndex, tileQuestions, stateQuestions}
 
 abbrev sized : ℕ → ℕ → ℕ → Sizes
 sized rows cols depth = record { rows = rows; cols = cols; depth = depth }
 
--- group sizes 2, 5 and 4, all different
-abbrev small : Cut
-small = record { H = 2; M = 5; N = 4; K = 7; rows = 2; cols = 3; depth = 3 }
-
 -- one tile: no letters, and a word in each slice
-abbrev scalar : Layout
-scalar = layoutOf [] [] [] 0
-
 abbrev single : Contraction
 single = contractionOf scalar scalar scalar 1 1
 
@@ -51,7 +43,7 @@ pub record TileQuestionCases : Type 0 where
   -- "Has work at least rows × depth + depth × cols words? 11"
   pub enough-work : workFits (sized 2 3 4) 20 ≡ true
   pub less-work : workFits (sized 2 3 4) 19 ≡ false
-  -- "Is each of the three counts below its group's size? 13"
+  -- "Is each of the three counts below its group's size? 13": they are 2, 5 and 4
   pub last-index : isIndex small 1 4 3 ≡ true
   pub batch-past : isIndex small 2 4 3 ≡ false
   pub row-past : isIndex small 1 5 3 ≡ false

@@ -6,7 +6,7 @@ use mathlib.Core.List.{List, [], _∷_, map}
 use Rattle.tiles.specs.Cut.{Cut, width, MB, NB, KB, total, tileNumber, batchOf, columnOf, panelOf, rowOf}
 use Rattle.tiles.specs.Progress.{State, old, part, final, stateAt}
 
-abbrev small : Cut
+abbrev pub small : Cut
 small = record { H = 2; M = 5; N = 4; K = 7; rows = 2; cols = 3; depth = 3 }
 
 -- the state of the output index of batch count 1, row count 2 and column count 3 after each of these tiles

@@ -14,8 +14,8 @@ use Rattle.validity.specs.TensorQuestions.{rankFits, countsMatch, letter
 abbrev given : ℕ → ℕ → ℕ → Layout
 given letters extents strides = record { axes = []; «letter_count» = letters; «extent_count» = extents; «stride_count» = strides; base = 0 }
 
-abbrev lettered : List ℕ → List Axis
-lettered cs = map (λ c. record { letter = c; extent = 1; stride = pos 1 }) cs
+abbrev named : List ℕ → List Axis
+named cs = map (λ c. record { letter = c; extent = 1; stride = pos 1 }) cs
 
 abbrev axis : ℕ → ℤ → List Axis
 axis extent stride = record { letter = 105; extent = extent; stride = stride } ∷ []
@@ -34,11 +34,11 @@ pub record TensorCases : Type 0 where
   pub fewer-strides : countsMatch (given 2 2 1) ≡ false
   pub more-of-both : countsMatch (given 2 3 3) ≡ false
   -- "Is every letter A to Z or a to z? 3": the letters at the four ends, and the characters beside them
-  pub letters : lettersValid (lettered (codes "AZaz")) ≡ true
-  pub before-A : lettersValid (lettered (codes "@")) ≡ false
-  pub after-Z : lettersValid (lettered (codes "[")) ≡ false
-  pub before-a : lettersValid (lettered (codes "`")) ≡ false
-  pub after-z : lettersValid (lettered (codes "a{")) ≡ false
+  pub letters : lettersValid (named (codes "AZaz")) ≡ true
+  pub before-A : lettersValid (named (codes "@")) ≡ false
+  pub after-Z : lettersValid (named (codes "[")) ≡ false
+  pub before-a : lettersValid (named (codes "`")) ≡ false
+  pub after-z : lettersValid (named (codes "a{")) ≡ false
   -- "Is every extent 1 to 65,536? 4"
   pub extent-1 : extentsValid (axis 1 (pos 1)) ≡ true
   pub extent-65536 : extentsValid (axis 65536 (pos 1)) ≡ true
