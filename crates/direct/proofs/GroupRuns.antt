@@ -12,7 +12,7 @@ use Rattle.offsets.specs.Counts.{offsetIn}
 use Rattle.offsets.specs.declared.offsets.Offsets.{Offsets}
 use Rattle.offsets.specs.Offsets.{wordsIn, Words}
 use Rattle.offsets.specs.FirstLabel.{firstLabel}
-use Rattle.offsets.proofs.Runs.{lead-long, offset-run}
+use Rattle.offsets.proofs.Runs.{first-long, offset-run}
 use Rattle.direct.specs.declared.walk.Walk.{Walk}
 use Rattle.direct.specs.Walk.{stepped, reached, Walks}
 
@@ -23,7 +23,7 @@ step-word x y z = omega arith
 module _ (g : List Label) (w : Walk) (k : Walks g w) where
   -- there is a count in each run
   pub run-long : 0 < w .len
-  run-long = omega (arith, k .len, lead-long g (k .foldable))
+  run-long = omega (arith, k .len, first-long g (k .foldable))
 
   -- a count of a run is one of the group's
   pub run-below : (m v : ℕ) → m < w .runs → v < w .len → w .len * m + v < size g

@@ -19,13 +19,13 @@ pub fn walk_of(g: Group) -> Walk
     requires { ⌜ (g .count ≤ axesLimit) × Foldable (labelsIn g) ⌝ }
     ensures { λ r. ⌜ Walks (labelsIn g) r ⌝ }
 {
-    let lead = FirstLabel::of(g);
-    let step = lead.step;
+    let label = FirstLabel::of(g);
+    let step = label.step;
     let runs = if g.count == 0 { 1 } else { g.size_from(1) };
     Walk {
         group: g,
         step,
-        len: lead.len,
+        len: label.len,
         runs,
     }
 }

@@ -25,6 +25,7 @@ unfolding each put sumTo axesOf layoutOf axes address rankFits countsMatch lette
 label-kind-cases =
     record {
       accepted = refl;
+      groups = refl;
       words = refl;
       address = refl;
       last-tile = refl;

@@ -1,5 +1,5 @@
 -- A contraction with a label of every kind, all extents 2: A `pikh`, B `qkhj`, D `jxhi`, so that `p` is in A only, `q` in B only, `x` in D only, `k`
--- in A and B, `i` in A and D, `j` in B and D, `h` in all three. Its groups are those of `GroupCases`: batch `h`, row `xi`, column `j`, depth `pkq`.
+-- in A and B, `i` in A and D, `j` in B and D, `h` in all three.
 -- In tiles of 3 rows, 1 column and depth 3 it has 2 row blocks, 2 column blocks and 3 panels.
 -- Assumes nothing.
 use Prim.Native.Nat.{ℕ, suc}
@@ -12,7 +12,9 @@ use Rattle.layout.specs.declared.layout.Layout.{Layout}
 use Rattle.layout.specs.Layout.{layoutOf}
 use Rattle.contraction.specs.declared.contraction.Contraction.{Contraction}
 use Rattle.contraction.specs.Operands.{three, contractionOf}
-use Rattle.meaning.specs.Meaning.{Slices, firstNo, result}
+use Rattle.groups.specs.Groups.{batch, row, column, depth}
+use Rattle.groups.specs.GroupCases.{groupLetters}
+use Rattle.meaning.specs.Meaning.{Slices, firstNo, shapeIn, result}
 use Rattle.tiles.specs.declared.grid.Sizes.{Sizes}
 use Rattle.tiles.specs.Cut.{total, tileNumber}
 use Rattle.tiles.specs.Progress.{old, part, final}
@@ -39,6 +41,8 @@ states ts = map (λ t. stateCall kinds sizes slices t 1 3 1) ts
 
 pub record LabelKindCases : Type 0 where
   pub accepted : firstNo kinds slices ≡ 0
+  -- the groups of these letters are those of `GroupCases`
+  pub groups : map (groupLetters (shapeIn kinds)) (batch ∷ row ∷ column ∷ depth ∷ []) ≡ codes "h" ∷ codes "xi" ∷ codes "j" ∷ codes "pkq" ∷ []
   -- "alpha × (sum, over every label that D lacks, of A's entry × B's entry) + beta × old word. A tensor that lacks a label has the same entry at
   -- each of its values."
   pub words : result kinds slices ≡ 86 ∷ 310 ∷ 86 ∷ 310 ∷ 614 ∷ 1350 ∷ 614 ∷ 1350 ∷ 126 ∷ 478 ∷ 126 ∷ 478 ∷ 718 ∷ 1582 ∷ 718 ∷ 1582 ∷ []

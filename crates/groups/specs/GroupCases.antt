@@ -13,16 +13,17 @@ use Rattle.groups.specs.Groups.{Group, batch, row, column, depth, group,
 abbrev everyKind : Shape
 everyKind = three (lettered (codes "pikh")) (lettered (codes "qkhj")) (lettered (codes "jxhi"))
 
-abbrev lettersIn : Group → List ℕ
-lettersIn g = map (λ l. l .letter) (group everyKind g)
+-- the letters of a group, in their order
+abbrev pub groupLetters : Shape → Group → List ℕ
+groupLetters s g = map (λ l. l .letter) (group s g)
 
 pub record GroupCases : Type 0 where
   -- "batch (in A, B and D), column (in B and D, not A), row (every other label of D, those in D only included), depth (every label not in D). Batch, row and
   -- column labels stand in order of first appearance in D's labels; depth in order of first appearance in A's, then B's."
-  pub in-batch : lettersIn batch ≡ codes "h"
-  pub in-row : lettersIn row ≡ codes "xi"
-  pub in-column : lettersIn column ≡ codes "j"
-  pub in-depth : lettersIn depth ≡ codes "pkq"
+  pub in-batch : groupLetters everyKind batch ≡ codes "h"
+  pub in-row : groupLetters everyKind row ≡ codes "xi"
+  pub in-column : groupLetters everyKind column ≡ codes "j"
+  pub in-depth : groupLetters everyKind depth ≡ codes "pkq"
   -- "its size, the product of its extents"
   pub row-size : size (group everyKind row) ≡ 4
   pub depth-size : size (group everyKind depth) ≡ 8

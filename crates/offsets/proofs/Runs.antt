@@ -11,23 +11,23 @@ use Rattle.offsets.specs.Counts.{offset}
 use Rattle.offsets.specs.FirstLabel.{firstLabel}
 use Rattle.offsets.proofs.Digits.{lowest, rest, pos-left}
 
-pub lead-long : (g : List Label) → Foldable g → 0 < firstLabel g .extent
-lead-long [] f = omega arith
-lead-long (l ∷ g) f = f .extents .0
+pub first-long : (g : List Label) → Foldable g → 0 < firstLabel g .extent
+first-long [] f = omega arith
+first-long (l ∷ g) f = f .extents .0
 
 -- and so in a group that has a count
-pub lead-counts : (g : List Label) {n : ℕ} → n < size g → 0 < firstLabel g .extent
-lead-counts [] h = omega arith
-lead-counts (l ∷ g) {n} h = pos-left (l .extent) (size g) n h
+pub first-counts : (g : List Label) {n : ℕ} → n < size g → 0 < firstLabel g .extent
+first-counts [] h = omega arith
+first-counts (l ∷ g) {n} h = pos-left (l .extent) (size g) n h
 
--- the offset of a count is that of its run's first count and v times the lead's weight
+-- the offset of a count is that of its run's first count and v times the first label's weight
 pub offset-run : (f : Label → ℕ) (g : List Label) (e m v : ℕ) → f (firstLabel []) ≡ 0 → e ≡ firstLabel g .extent → v < e → offset f g (e * m + v) ≡ offset f g (e * m) + v * f (firstLabel g)
 offset-run f [] e m v z q h = rw z (omega arith)
 offset-run f (l ∷ g) e m v z q h =
     let p : 0 < e = omega arith in
     rw (← q, lowest e m h, rest e m h, mul-mod-right e m, mul-div-right m p) (omega arith)
 
--- the next count of a run: its lowest digit is one more, and its offset grows by the lead's weight
+-- the next count of a run: its lowest digit is one more, and its offset grows by the first label's weight
 module _ (e n : ℕ) (h : n % e + 1 < e) where
   next-count : n + 1 ≡ e * (n / e) + (n % e + 1)
   next-count = omega (arith, div-add-mod n e)

@@ -18,6 +18,7 @@ question-cases =
       rank-1 = refl;
       counts-2 = refl;
       letter-3 = refl;
+      across-tensors = refl;
       extent-4 = refl;
       base-5 = refl;
       agree-6 = refl;

@@ -39,9 +39,9 @@ pub fn scatter_vectors(
     ensures { λ _. ⌜ ScatterVectors (wordsIn from) (labelsIn g) first count
         (three (now (a .entry)) (now (b .entry)) (now (d .entry))) (three (now (a .exit)) (now (b .exit)) (now (d .exit))) ⌝ }
 {
-    let lead = FirstLabel::of(g);
-    let step = lead.step;
-    let len = lead.len;
+    let label = FirstLabel::of(g);
+    let step = label.step;
+    let len = label.len;
     let mut at = from;
     let mut left: u32 = 0;
     let mut k: usize = 0;

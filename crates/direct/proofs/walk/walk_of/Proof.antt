@@ -27,14 +27,14 @@ no-label g e = rw e
 
 walks : (g : Group) (l : FirstLabel) (runs : ℕ) → g .count ≤ axesLimit → Foldable (labelsIn g) → FirstLabelOf (labelsIn g) l → runs ≡ size (drop 1 (labelsIn g))
     → Walks (labelsIn g) (record { group = g; step = l .step; len = l .len; runs = runs })
-walks g l runs few foldable leads e =
+walks g l runs few foldable is-first e =
     record {
       labels = refl;
       few = few;
       foldable = foldable;
-      len = leads .len;
-      step = leads .step;
-      counts = rw (e, leads .len) (counted (labelsIn g));
+      len = is-first .len;
+      step = is-first .step;
+      counts = rw (e, is-first .len) (counted (labelsIn g));
     }
 
 of-requires : tie.Need-of-requires

@@ -19,7 +19,7 @@ use Rattle.offsets.specs.declared.offsets.Offsets.{Offsets}
 use Rattle.offsets.specs.Counts.{offsetIn}
 use Rattle.offsets.specs.FirstLabel.{firstLabel, FirstLabelOf}
 use Rattle.offsets.specs.Offsets.{wordsIn, Words}
-use Rattle.offsets.proofs.Runs.{lead-counts, next-lowest, offset-next}
+use Rattle.offsets.proofs.Runs.{first-counts, next-lowest, offset-next}
 use Rattle.scatter.specs.ScatterVectors.{ScatterVectors}
 use Rattle.scatter.proofs.blocks.scatter_vectors.Statement.{statement}
 use Rattle.scatter.proofs.blocks.scatter_vectors.Tie as tie
@@ -29,28 +29,28 @@ abbrev wordAt : (Operand → ℕ) → List Label → Operand → ℕ → ℕ
 wordAt from g o n = word 64 (from o + offsetIn (wordOf 64) o g n)
 
 -- `at` has the words of count n, and with it `left` counts of its run are left
-record Stands (from : Operand → ℕ) (g : List Label) (len n : ℕ) (at : Offsets) (left : ℕ) : Type 0 where
+record AtCount (from : Operand → ℕ) (g : List Label) (len n : ℕ) (at : Offsets) (left : ℕ) : Type 0 where
   run : n % len + left ≡ len
   words : (o : Operand) → wordsIn at o ≡ wordAt from g o n
 
 -- before count n: where counts of a run are left, `at` has the words of the count before it
 record Before (from : Operand → ℕ) (g : List Label) (len n : ℕ) (at : Offsets) (left : ℕ) : Type 0 where
-  last : 0 < left → (m : ℕ) × (n ≡ m + 1) × Stands from g len m at (left + 1)
+  last : 0 < left → (m : ℕ) × (n ≡ m + 1) × AtCount from g len m at (left + 1)
 
-module _ {from : Operand → ℕ} {g : List Label} {l : FirstLabel} (leads : FirstLabelOf g l) where
+module _ {from : Operand → ℕ} {g : List Label} {l : FirstLabel} (is-first : FirstLabelOf g l) where
   -- formed anew
   anew : {n : ℕ} {by to : Offsets} → n < size g → Words by (λ o. offsetIn (wordOf 64) o g n) → Words to (λ o. from o + wordsIn by o)
-      → Stands from g (l .len) n to (l .len - n % l .len)
+      → AtCount from g (l .len) n to (l .len - n % l .len)
   anew {n} h of plus =
-      let long : 0 < l .len = rw (leads .len) (lead-counts g h) in
+      let long : 0 < l .len = rw (is-first .len) (first-counts g h) in
       record {
         run = omega (arith, mod-lt n long);
         words = λ o. plus .each o ∙ ap (λ (x : ℕ). word 64 (from o + x)) (of .each o) ∙ word-add-right 64 (from o) (offsetIn (wordOf 64) o g n);
       }
 
   -- by one step
-  step : {m left : ℕ} {at to : Offsets} → Stands from g (l .len) m at (left + 1) → 0 < left → Words to (λ o. wordsIn at o + wordsIn (l .step) o)
-      → Stands from g (l .len) (m + 1) to left
+  step : {m left : ℕ} {at to : Offsets} → AtCount from g (l .len) m at (left + 1) → 0 < left → Words to (λ o. wordsIn at o + wordsIn (l .step) o)
+      → AtCount from g (l .len) (m + 1) to left
   step {m} {left} {at} {to} s h plus =
       let more : m % l .len + 1 < l .len = omega (arith, s .run) in
       record { run = omega (arith, s .run, next-lowest (l .len) m more); words = words more }
@@ -59,24 +59,24 @@ module _ {from : Operand → ℕ} {g : List Label} {l : FirstLabel} (leads : Fir
       words more o =
           let w = offsetIn (wordOf 64) o g m in
           let s1 = wordOf 64 (firstLabel g .stride o) in
-          plus .each o ∙ ap (λ (x : ℕ). word 64 (x + wordsIn (l .step) o)) (s .words o) ∙ ap (λ (x : ℕ). word 64 (word 64 (from o + w) + x)) (leads .step o)
+          plus .each o ∙ ap (λ (x : ℕ). word 64 (x + wordsIn (l .step) o)) (s .words o) ∙ ap (λ (x : ℕ). word 64 (word 64 (from o + w) + x)) (is-first .step o)
           ∙ word-add-left 64 (from o + w) s1 ∙ ap (word 64) (add-assoc (from o) w s1)
-          ∙ ap (λ (x : ℕ). word 64 (from o + x)) (sym (offset-next (l .len) m more (λ x. wordOf 64 (x .stride o)) g refl (leads .len)))
+          ∙ ap (λ (x : ℕ). word 64 (from o + x)) (sym (offset-next (l .len) m more (λ x. wordOf 64 (x .stride o)) g refl (is-first .len)))
 
   -- by one step from the count before
-  along : {n left : ℕ} {at to : Offsets} → Before from g (l .len) n at left → 0 < left → Words to (λ o. wordsIn at o + wordsIn (l .step) o) → Stands from g (l .len) n to left
+  along : {n left : ℕ} {at to : Offsets} → Before from g (l .len) n at left → 0 < left → Words to (λ o. wordsIn at o + wordsIn (l .step) o) → AtCount from g (l .len) n to left
   along b h plus =
       let m = b .last h in
       rw (m .1) (step (m .2) h plus)
 
 -- some count of the run is left
-some-left : {from : Operand → ℕ} {g : List Label} {l : FirstLabel} {n left : ℕ} {at : Offsets} → FirstLabelOf g l → n < size g → Stands from g (l .len) n at left → 0 < left
-some-left {g = g} {l} {n} leads h s =
-    let long : 0 < l .len = rw (leads .len) (lead-counts g h) in
+some-left : {from : Operand → ℕ} {g : List Label} {l : FirstLabel} {n left : ℕ} {at : Offsets} → FirstLabelOf g l → n < size g → AtCount from g (l .len) n at left → 0 < left
+some-left {g = g} {l} {n} is-first h s =
+    let long : 0 < l .len = rw (is-first .len) (first-counts g h) in
     omega (arith, s .run, mod-lt n long)
 
 -- before the next count
-passed : {from : Operand → ℕ} {g : List Label} {len left : ℕ} {at : Offsets} (first k : ℕ) → 0 < left → Stands from g len (first + k) at left → Before from g len (first + (k + 1)) at (left - 1)
+passed : {from : Operand → ℕ} {g : List Label} {len left : ℕ} {at : Offsets} (first k : ℕ) → 0 < left → AtCount from g len (first + k) at left → Before from g len (first + (k + 1)) at (left - 1)
 passed {left = left} first k h s =
     let e : left - 1 + 1 ≡ left = omega arith in
     record { last = λ p. (first + k, sym (add-assoc first k 1), rw e s) }
@@ -140,14 +140,14 @@ plus-requires c κs = tt
 rem-left : tie.Need-rem-left Inv-loop μ-loop
 rem-left c =
     let s = c .before .before .before .before .before .before .before .before .before .before in
-    rw (c .before .before .before .before .before .before .of .ensures .len) (lead-counts (labelsIn (s .args .g)) {n = s .args .first + c .before .before .before .before .loop .k} (omega arith))
+    rw (c .before .before .before .before .before .before .of .ensures .len) (first-counts (labelsIn (s .args .g)) {n = s .args .first + c .before .before .before .before .loop .k} (omega arith))
 
 sub-left : tie.Need-sub-left Inv-loop μ-loop
 sub-left c =
     let s = c .before .before .before .before .before .before .before .before .before .before in
     let n = s .args .first + c .before .before .before .before .loop .k in
-    let leads = c .before .before .before .before .before .before .of in
-    let long : 0 < leads .result .len = rw (leads .ensures .len) (lead-counts (labelsIn (s .args .g)) {n = n} (omega arith)) in
+    let is-first = c .before .before .before .before .before .before .of in
+    let long : 0 < is-first .result .len = rw (is-first .ensures .len) (first-counts (labelsIn (s .args .g)) {n = n} (omega arith)) in
     omega (arith, mod-lt n long)
 
 plus-requires-2 : tie.Need-plus-requires-2 Inv-loop μ-loop
@@ -157,10 +157,10 @@ sub-left-2 : tie.Need-sub-left-2 Inv-loop μ-loop
 sub-left-2 c =
     let s = c .before .before .before .before .before .before .before .before .before in
     let l = c .before .before .before .loop in
-    let leads = c .before .before .before .before .before .of .ensures in
+    let is-first = c .before .before .before .before .before .of .ensures in
     let n : s .args .first + l .k < size (labelsIn (s .args .g)) = omega arith in
     ⊎-elim
-    (λ w. rw (w .4) (some-left leads n (anew leads n (w .1 .ensures) (w .2 .ensures))))
+    (λ w. rw (w .4) (some-left is-first n (anew is-first n (w .1 .ensures) (w .2 .ensures))))
     (λ w. rw (w .3) (omega (arith, w .0 .left)))
     (c .before .if1 .came)
 
@@ -192,16 +192,16 @@ loop-again : tie.Need-loop-again Inv-loop μ-loop
 loop-again c =
     let s = c .before .before .before .before .before .before .before .before .before in
     let l = c .before .before .before .loop in
-    let leads = c .before .before .before .before .before .of .ensures in
+    let is-first = c .before .before .before .before .before .of .ensures in
     let n : s .args .first + l .k < size (labelsIn (s .args .g)) = omega arith in
-    let here : Stands (wordsIn (s .args .from)) (labelsIn (s .args .g)) (c .before .before .before .before .before .of .result .len) (s .args .first + l .k) (c .before .if1 .at) (c .before .if1 .left) =
+    let here : AtCount (wordsIn (s .args .from)) (labelsIn (s .args .g)) (c .before .before .before .before .before .of .result .len) (s .args .first + l .k) (c .before .if1 .at) (c .before .if1 .left) =
     ⊎-elim
-    (λ w. rw (w .3, w .4) (anew leads n (w .1 .ensures) (w .2 .ensures)))
-    (λ w. rw (w .2, w .3) (along leads (l .inv .2) (omega (arith, w .0 .left)) (w .1 .ensures)))
+    (λ w. rw (w .3, w .4) (anew is-first n (w .1 .ensures) (w .2 .ensures)))
+    (λ w. rw (w .2, w .3) (along is-first (l .inv .2) (omega (arith, w .0 .left)) (w .1 .ensures)))
     (c .before .if1 .came) in (
       omega arith,
       filled-next (l .a) (l .b) (l .d) (c .before .if1 .at) (l .inv .1) (λ o. elim o [ A ↦ omega arith | B ↦ omega arith | D ↦ omega arith ]) (here .words),
-      passed (s .args .first) (l .k) (some-left leads n here) here,
+      passed (s .args .first) (l .k) (some-left is-first n here) here,
     )
 
 same-length : tie.Need-same-length Inv-loop μ-loop

@@ -1,4 +1,4 @@
--- `FirstLabel::of` meets its contract: with no label the group has one count, else its first label leads.
+-- `FirstLabel::of` meets its contract: with no label the group has one count, else it is the first.
 -- Assumes nothing.
 use mathlib.Core.Path.{_≡_, refl, sym, ap, _∙_}
 use mathlib.Core.List.{List, [], _∷_, map}
