@@ -1,27 +1,27 @@
-ghost use Rattle.contraction.specs.TensorAxes.{LowRank, Lists};
+ghost use Prim.Native.Nat.{_≤_};
+ghost use mathlib.Core.Path.{_≡_};
+ghost use Rattle.contraction.specs.Operands.{three};
+ghost use Rattle.contraction.specs.TensorAxes.{ListedFrom, Ready};
 use super::contraction::Contraction;
-use layout::axes::Axes;
+use labels::letter_sets::Labelled;
 
-// The axes of each tensor, and of all together: D's, then A's, then B's.
+// The axes of each tensor beside their letters, and of all together: D's, then A's, then B's.
 pub struct Operands {
-    pub a: Axes,
-    pub b: Axes,
-    pub d: Axes,
-    pub all: Axes,
+    pub a: Labelled,
+    pub b: Labelled,
+    pub d: Labelled,
+    pub all: Labelled,
 }
 
 impl Operands {
-    pub fn of(c: Contraction) -> Operands
-        requires { ⌜ LowRank c ⌝ }
-        ensures { λ r. ⌜ Lists c r ⌝ }
+    pub fn of(c: Contraction, a: Labelled, b: Labelled, d: Labelled) -> Operands
+        requires { ⌜ ListedFrom c (three a b d) ⌝ }
+        ensures { λ r. ⌜ Ready c r ⌝ }
     {
         let la = c.a;
         let lb = c.b;
-        let ld = c.d;
-        let a = Axes::of(la);
-        let b = Axes::of(lb);
-        let d = Axes::of(ld);
-        let all = d.with(la).with(lb);
+        let axes = d.axes;
+        let all = Labelled::of(axes.with(la).with(lb));
         Operands { a, b, d, all }
     }
 }

@@ -4,14 +4,13 @@ ghost use Prim.Native.Nat.{_+_, _*_, _-_, _^_, _<_};
 ghost use lib.Dec.{eqb, leb};
 ghost use Rattle.layout.specs.Listed.{listed};
 ghost use Rattle.validity.specs.Checked.{Checked};
-ghost use Rattle.labels.specs.Labels.{labels, extentOf};
-ghost use Rattle.labels.specs.LetterSets.{Spells};
+ghost use Rattle.labels.specs.Labels.{extentOf};
+ghost use Rattle.labels.specs.Lettered.{Lettered};
 ghost use Rattle.entries.specs.EntryQuestions.{strideSize, below, apart};
 use labels::labels::extent_of;
 use labels::labels::last_index;
 use labels::labels::stride_of;
-use labels::letter_sets::Letters;
-use labels::letter_sets::letters_of;
+use labels::letter_sets::Labelled;
 use layout::axes::Axes;
 
 // The size of a letter's stride.
@@ -39,33 +38,32 @@ fn share(x: Axes, c: u8, d: u8) -> u64
 }
 
 // The sum that c's stride size has to exceed.
-fn sum_below(x: Axes, all: Letters, c: u8) -> u64
-    requires { ⌜ Checked x × Spells all (labels (listed x)) ⌝ }
-    ensures { λ r. ⌜ r ≡ below (listed x) c ⌝ }
+fn sum_below(x: Labelled, c: u8) -> u64
+    requires { ⌜ Lettered x ⌝ }
+    ensures { λ r. ⌜ r ≡ below (listed (x .axes)) c ⌝ }
 {
-    let letters = all.letters;
+    let all = x.letters;
     let mut i = all.count;
     let mut sum: u64 = 0;
     while 0 < i {
         i -= 1;
-        sum = share(x, c, letters[i]) + sum;
+        sum = share(x.axes, c, all.letters[i]) + sum;
     }
     sum
 }
 
 // Question 9.
-pub fn all_apart(x: Axes) -> bool
-    requires { ⌜ Checked x ⌝ }
-    ensures { λ r. ⌜ r ≡ apart (listed x) ⌝ }
+pub fn all_apart(x: Labelled) -> bool
+    requires { ⌜ Lettered x ⌝ }
+    ensures { λ r. ⌜ r ≡ apart (listed (x .axes)) ⌝ }
 {
-    let all = letters_of(x);
-    let letters = all.letters;
+    let all = x.letters;
     let mut i = all.count;
     let mut apart = true;
     while 0 < i {
         i -= 1;
-        let c = letters[i];
-        apart = ((extent_of(x, c) <= 1) | (sum_below(x, all, c) < stride_size(x, c))) & apart;
+        let c = all.letters[i];
+        apart = ((extent_of(x.axes, c) <= 1) | (sum_below(x, c) < stride_size(x.axes, c))) & apart;
     }
     apart
 }

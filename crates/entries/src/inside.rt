@@ -3,13 +3,12 @@ ghost use Prim.Native.Nat.{_+_, _*_, _-_, _^_, _<_, _≤_};
 ghost use Rattle.words.specs.Words.{up, down, signed};
 ghost use Rattle.limits.specs.Limits.{extentLimit};
 ghost use Rattle.layout.specs.Listed.{listed};
-ghost use Rattle.validity.specs.Checked.{Checked};
+ghost use Rattle.labels.specs.Lettered.{Lettered};
 ghost use Rattle.entries.specs.EntryQuestions.{span, inside};
 use labels::labels::extent_of;
 use labels::labels::last_index;
 use labels::labels::stride_of;
-use labels::letter_sets::letters_of;
-use layout::axes::Axes;
+use labels::letter_sets::Labelled;
 
 // How far the entries of a tensor reach above and below its base.
 pub struct Reach {
@@ -38,26 +37,28 @@ impl Reach {
     }
 }
 
-pub fn reach_of(x: Axes) -> Reach
-    requires { ⌜ Checked x ⌝ }
-    ensures { λ r. ⌜ (r .up ≡ span up (listed x)) × (r .down ≡ span down (listed x)) × (r .up < 2 ^ 60) × (r .down < 2 ^ 60) ⌝ }
+pub fn reach_of(x: Labelled) -> Reach
+    requires { ⌜ Lettered x ⌝ }
+    ensures { λ r. ⌜ (r .up ≡ span up (listed (x .axes)))
+        × (r .down ≡ span down (listed (x .axes)))
+        × (r .up < 2 ^ 60)
+        × (r .down < 2 ^ 60) ⌝ }
 {
-    let all = letters_of(x);
-    let letters = all.letters;
+    let all = x.letters;
     let mut i = all.count;
     let mut reach = Reach { up: 0, down: 0 };
     while 0 < i {
         i -= 1;
-        let c = letters[i];
-        reach = reach.with(extent_of(x, c), stride_of(x, c));
+        let c = all.letters[i];
+        reach = reach.with(extent_of(x.axes, c), stride_of(x.axes, c));
     }
     reach
 }
 
 // Question 8.
-pub fn all_inside(x: Axes, base: u32, length: usize) -> bool
-    requires { ⌜ Checked x ⌝ }
-    ensures { λ r. ⌜ r ≡ inside (listed x) base length ⌝ }
+pub fn all_inside(x: Labelled, base: u32, length: usize) -> bool
+    requires { ⌜ Lettered x ⌝ }
+    ensures { λ r. ⌜ r ≡ inside (listed (x .axes)) base length ⌝ }
 {
     let reach = reach_of(x);
     let start = base as u64;

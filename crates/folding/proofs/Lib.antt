@@ -1,3 +1,4 @@
 pub mod FoldCases
 pub mod FoldKeeps
 pub mod Folding
+pub mod LabelAdded

@@ -1,14 +1,18 @@
 ghost use mathlib.Core.Path.{_≡_};
-ghost use Prim.Native.Nat.{_+_, _*_, _^_, _<_, _≤_};
+ghost use mathlib.Core.Bool.{true, cond, _&&_};
+ghost use Prim.Native.Nat.{_*_, _-_, _^_, _<_, _≤_};
+ghost use lib.Dec.{ltb};
 ghost use lib.IntN.{pos, natAbs, _*ℤ_};
 ghost use Rattle.words.specs.Words.{signed};
+ghost use Rattle.words.specs.Lists.{keep};
 ghost use Rattle.limits.specs.Limits.{axesLimit};
+ghost use Rattle.labels.specs.LetterSets.{has};
 ghost use Rattle.groups.specs.Held.{asLabel, labelsIn};
 ghost use Rattle.groups.specs.Foldable.{Small, Foldable};
 ghost use Rattle.folding.specs.Fold.{eqℤ, joins, join, fold};
-ghost use Rattle.folding.specs.FoldedWith.{addTo};
 use groups::groups::Dim;
 use groups::groups::Group;
+use labels::letter_sets::has_letter;
 
 // Is the stride that of the label before times that one's extent? Strides are address words.
 fn follows(extent: u32, before: u64, stride: u64) -> bool
@@ -44,41 +48,59 @@ fn joined(p: Dim, l: Dim) -> Dim
     }
 }
 
-// A folded group with one label more, joined to the last one or behind it.
-fn added(g: Group, l: Dim) -> Group
-    requires { ⌜ (g .count < axesLimit) × Foldable (addTo (labelsIn g) (asLabel l)) × Foldable (labelsIn g) ⌝ }
-    ensures { λ r. ⌜ (labelsIn r ≡ addTo (labelsIn g) (asLabel l)) × (r .count ≤ g .count + 1) ⌝ }
+// Does l continue p, the last of n labels?
+fn joins_last(n: usize, p: Dim, l: Dim) -> bool
+    requires { ⌜ (0 < n → Small (asLabel p)) ⌝ }
+    ensures { λ r. ⌜ r ≡ (ltb 0 n && joins (asLabel p) (asLabel l)) ⌝ }
 {
-    let n = g.count;
     if n == 0 {
-        return g.with(l);
+        return false;
     }
-    let last = n - 1;
-    let mut dims = g.dims;
-    let p = dims[last];
-    if continues(p, l) {
-        dims[last] = joined(p, l);
-        Group { dims, count: n }
-    } else {
-        g.with(l)
-    }
+    continues(p, l)
 }
 
-// A group with labels of extent 1 dropped and labels that step together joined.
-pub fn folded(g: Group) -> Group
-    requires { ⌜ (g .count ≤ axesLimit) × Foldable (labelsIn g) ⌝ }
-    ensures { λ r. ⌜ (labelsIn r ≡ fold (labelsIn g)) × (r .count ≤ axesLimit) ⌝ }
+// The place of the last of n labels.
+fn last_place(n: usize) -> usize
+    ensures { λ r. ⌜ r ≡ n - 1 ⌝ }
 {
-    let dims = g.dims;
+    if n == 0 { 0 } else { n - 1 }
+}
+
+fn pick(test: bool, yes: usize, no: usize) -> usize
+    ensures { λ r. ⌜ r ≡ cond test yes no ⌝ }
+{
+    if test { yes } else { no }
+}
+
+// The label that goes to the place of p, or behind it.
+fn merged(p: Dim, l: Dim, joins: bool) -> Dim
+    requires { ⌜ (joins ≡ true → p .extent * l .extent < 2 ^ 32) ⌝ }
+    ensures { λ r. ⌜ asLabel r ≡ cond joins (join (asLabel p) (asLabel l)) (asLabel l) ⌝ }
+{
+    if joins { joined(p, l) } else { l }
+}
+
+// The labels of the letters that the set has, with labels of extent 1 dropped and labels that step together joined.
+pub fn folded(g: Group, set: u64) -> Group
+    requires { ⌜ (g .count ≤ axesLimit) × Foldable (keep (λ l. has set (l .letter)) (labelsIn g)) ⌝ }
+    ensures { λ r. ⌜ (labelsIn r ≡ fold (keep (λ l. has set (l .letter)) (labelsIn g))) × (r .count ≤ axesLimit) ⌝ }
+{
     let count = g.count;
     let mut out = Group::none();
+    let mut n: usize = 0;
     let mut i: usize = 0;
     while i < count {
-        let l = dims[i];
-        if l.extent != 1 {
-            out = added(out, l);
+        let l = g.dims[i];
+        if has_letter(set, l.letter as u32) & (l.extent != 1) {
+            let last = last_place(n);
+            let p = out.dims[last];
+            let joins = joins_last(n, p, l);
+            let at = pick(joins, last, n);
+            out.dims[at] = merged(p, l, joins);
+            n = at + 1;
         }
         i += 1;
     }
+    out.count = n;
     out
 }

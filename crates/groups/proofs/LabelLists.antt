@@ -1,4 +1,4 @@
--- A label as the code holds it, and the code's list of up to 24 labels: one label more at its end, and its last label.
+-- A label as the code holds it, and the code's list of labels: one label more at its end, and its last label.
 -- Assumes nothing.
 use mathlib.Core.Path.{_≡_, ap, _∙_, fun-ext}
 use mathlib.Core.List.{List, [], _∷_, _++_, map, map-append}
@@ -38,10 +38,10 @@ pub as-label : (x : Operands) → Gathered x → (c : ℕ)
     → asLabel
     (record {
       letter = c;
-      extent = extentOf c (listed (x .all));
-      a = wordOf 64 (strideOf c (listed (x .a)));
-      b = wordOf 64 (strideOf c (listed (x .b)));
-      d = wordOf 64 (strideOf c (listed (x .d)));
+      extent = extentOf c (listed (x .all .axes));
+      a = wordOf 64 (strideOf c (listed (x .a .axes)));
+      b = wordOf 64 (strideOf c (listed (x .b .axes)));
+      d = wordOf 64 (strideOf c (listed (x .d .axes)));
     })
     ≡ label (shapeOf x) c
 as-label x h c =
@@ -49,10 +49,10 @@ as-label x h c =
     (ap (λ (f : Operand → ℤ). record { letter = c; extent = extentOf c (together (shapeOf x)); stride = f }) (fun-ext same))
   where
     word : (o : Operand) → signed 64 (wordOf 64 (strideOf c (shapeOf x o))) ≡ strideOf c (shapeOf x o)
-    word o = signed-stride (axesIn x o) (h .each o .few) (h .each o .strides) c
+    word o = signed-stride (axesIn x o) (h .each o .checked .few) (h .each o .checked .strides) c
 
     same : (o : Operand)
-        → three (signed 64 (wordOf 64 (strideOf c (listed (x .a))))) (signed 64 (wordOf 64 (strideOf c (listed (x .b))))) (signed 64 (wordOf 64 (strideOf c (listed (x .d))))) o
+        → three (signed 64 (wordOf 64 (strideOf c (listed (x .a .axes))))) (signed 64 (wordOf 64 (strideOf c (listed (x .b .axes))))) (signed 64 (wordOf 64 (strideOf c (listed (x .d .axes))))) o
         ≡ strideOf c (shapeOf x o)
     same A = word A
     same B = word B

@@ -22,16 +22,9 @@ use Rattle.contraction.specs.Operands.{Operand, A, B, D, together}
 use Rattle.contraction.specs.TensorAxes.{shapeOf, Gathered}
 use Rattle.groups.specs.declared.groups.Sets.{Sets}
 use Rattle.groups.specs.Groups.{Group, batch, row, column, depth, groupBy, groupOf, groupNumber, inGroup, group, outputs, label, letters}
-use Rattle.groups.specs.Sets.{Split}
+use Rattle.groups.specs.Sets.{Split, setsIn}
 
 -- ---- the four sets
-
--- the code's set for each of the four groups
-abbrev pub setsIn : Sets → Group → ℕ
-setsIn r batch = r .batch
-setsIn r row = r .row
-setsIn r column = r .column
-setsIn r depth = r .depth
 
 -- does a group's set have a letter, by whether A, B and D have it
 abbrev pub inSet : Group → Bool → Bool → Bool → Bool
@@ -73,19 +66,15 @@ module _ (x : Operands) (h : Gathered x) where
   unfolding labels lettersValid
   valid =
       rw (← h .all)
-      (all-once (λ c. isLetter c ≡ true) (lettersOf (listed (x .all)))
-      (all-map (λ c. isLetter c ≡ true) (λ (a : Axis). a .letter) (listed (x .all))
-      (all-imp (λ a. T-true (isLetter (a .letter))) (listed (x .all)) (every-all (λ (a : Axis). isLetter (a .letter)) (listed (x .all)) (h .whole .letters)))))
+      (all-once (λ c. isLetter c ≡ true) (lettersOf (listed (x .all .axes)))
+      (all-map (λ c. isLetter c ≡ true) (λ (a : Axis). a .letter) (listed (x .all .axes))
+      (all-imp (λ a. T-true (isLetter (a .letter))) (listed (x .all .axes)) (every-all (λ (a : Axis). isLetter (a .letter)) (listed (x .all .axes)) (h .whole .checked .letters)))))
 
   -- the labels of the letters that D's set has are D's labels
-  pub kept-output : (l : Letters) → Spells l (labels (shapeOf x D)) → map (label (shapeOf x)) (keep (has (l .set)) (labels (listed (x .all)))) ≡ outputs (shapeOf x)
+  pub kept-output : (l : Letters) → Spells l (labels (shapeOf x D)) → map (label (shapeOf x)) (keep (has (l .set)) (labels (together (shapeOf x)))) ≡ outputs (shapeOf x)
   unfolding outputs
   kept-output l e =
-      rw (
-        h .all,
-        keep-ext (has (l .set)) (λ c. member c (letters (shapeOf x) D)) (labels (together (shapeOf x)))
-            (all-imp (has-letter D l e) (labels (together (shapeOf x))) valid),
-      )
+      rw (keep-ext (has (l .set)) (λ c. member c (letters (shapeOf x) D)) (labels (together (shapeOf x))) (all-imp (has-letter D l e) (labels (together (shapeOf x))) valid))
 
   somewhere : All (λ c. (member c (letters (shapeOf x) D) || (member c (letters (shapeOf x) A) || member c (letters (shapeOf x) B))) ≡ true) (labels (together (shapeOf x)))
   unfolding labels together
@@ -112,6 +101,6 @@ module _ (x : Operands) (h : Gathered x) where
             (set-group (member c (letters (shapeOf x) A)) (member c (letters (shapeOf x) B)) (member c (letters (shapeOf x) D)) (v .1) g)
 
     -- the labels of the letters that a group's set has are the group
-    pub kept-group : map (label (shapeOf x)) (keep (has (setsIn r g)) (labels (listed (x .all)))) ≡ group (shapeOf x) g
+    pub kept-group : map (label (shapeOf x)) (keep (has (setsIn r g)) (labels (together (shapeOf x)))) ≡ group (shapeOf x) g
     unfolding group
-    kept-group = rw (h .all, keep-ext (has (setsIn r g)) (inGroup (shapeOf x) g) (labels (together (shapeOf x))) in-set)
+    kept-group = rw (keep-ext (has (setsIn r g)) (inGroup (shapeOf x) g) (labels (together (shapeOf x))) in-set)

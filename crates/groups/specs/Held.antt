@@ -16,6 +16,6 @@ asLabel x = record { letter = x .letter; extent = x .extent; stride = three (sig
 abbrev pub noDim : Dim
 noDim = record { letter = 0; extent = 0; a = 0; b = 0; d = 0 }
 
--- the labels that the code's list of up to 24 holds
+-- the labels that the code's list holds
 unfoldable pub labelsIn : Group → List Label
 labelsIn g = map asLabel (firstOf (g .count) noDim (g .dims))

@@ -1,21 +1,18 @@
 ghost use mathlib.Core.Path.{_≡_};
 ghost use mathlib.Core.List.{[], _∷_, _++_, map};
 ghost use Prim.Native.Nat.{_+_, _<_, _≤_};
-ghost use lib.ListN.{drop};
-ghost use Rattle.words.specs.Lists.{keep};
+ghost use lib.ListN.{length, drop};
 ghost use Rattle.limits.specs.Limits.{axesLimit};
-ghost use Rattle.labels.specs.LetterSets.{has, spelled};
+ghost use Rattle.labels.specs.Labels.{labels};
+ghost use Rattle.contraction.specs.Operands.{together};
 ghost use Rattle.contraction.specs.TensorAxes.{shapeOf, Gathered};
-ghost use Rattle.groups.specs.Groups.{label, outputs, size};
+ghost use Rattle.groups.specs.Groups.{label, size};
 ghost use Rattle.groups.specs.Held.{asLabel, labelsIn};
 ghost use Rattle.groups.specs.Foldable.{Foldable};
 ghost use Rattle.groups.specs.Sets.{Split, Grouped};
 use contraction::operands::Operands;
 use labels::labels::extent_of;
 use labels::labels::stride_of;
-use labels::letter_sets::Letters;
-use labels::letter_sets::has_letter;
-use labels::letter_sets::letters_of;
 use limits::limits::Limits;
 
 // A label, or several that were joined, with its extent and its stride in each tensor as an address word.
@@ -74,16 +71,16 @@ fn dim_of(x: Operands, c: u8) -> Dim
     let all = x.all;
     Dim {
         letter: c,
-        extent: extent_of(all, c),
-        a: stride_of(a, c),
-        b: stride_of(b, c),
-        d: stride_of(d, c),
+        extent: extent_of(all.axes, c),
+        a: stride_of(a.axes, c),
+        b: stride_of(b.axes, c),
+        d: stride_of(d.axes, c),
     }
 }
 
 impl Group {
     pub fn none() -> Group
-        ensures { λ r. ⌜ (labelsIn r ≡ []) × (r .count ≡ 0) ⌝ }
+        ensures { λ r. ⌜ (labelsIn r ≡ []) × (r .count ≡ 0) × (length (r .dims) ≡ axesLimit) ⌝ }
     {
         Group {
             dims: [Dim {
@@ -125,55 +122,31 @@ impl Group {
     }
 }
 
-// The labels of the letters that the set has.
-fn group_of(x: Operands, all: Letters, set: u64) -> Group
-    requires { ⌜ Gathered x × (all .count ≤ axesLimit) ⌝ }
-    ensures { λ r. ⌜ (labelsIn r ≡ map (label (shapeOf x)) (keep (has set) (spelled all))) × (r .count ≤ axesLimit) ⌝ }
+// Every label of a contraction, in order of first appearance in D's, A's and B's letters.
+pub fn labels_of(x: Operands) -> Group
+    requires { ⌜ Gathered x ⌝ }
+    ensures { λ r. ⌜ (labelsIn r ≡ map (label (shapeOf x)) (labels (together (shapeOf x)))) × (r .count ≤ axesLimit) ⌝ }
 {
+    let all = x.all;
     let letters = all.letters;
-    let count = all.count;
+    let count = letters.count;
     let mut group = Group::none();
     let mut i: usize = 0;
     while i < count {
-        let c = letters[i];
-        if has_letter(set, c) {
-            group = group.with(dim_of(x, c));
-        }
+        group.dims[i] = dim_of(x, letters.letters[i]);
         i += 1;
+        group.count = i;
     }
     group
 }
 
-// D's labels.
-pub fn output_of(x: Operands) -> Group
-    requires { ⌜ Gathered x ⌝ }
-    ensures { λ r. ⌜ (labelsIn r ≡ outputs (shapeOf x)) × (r .count ≤ axesLimit) ⌝ }
-{
-    let xd = x.d;
-    let xall = x.all;
-    let d = letters_of(xd);
-    let all = letters_of(xall);
-    group_of(x, all, d.set)
-}
-
-// The four groups of a contraction's labels.
-pub fn groups_of(x: Operands) -> Groups
+// The four groups of a contraction's labels, as sets of letters.
+pub fn groups_of(x: Operands) -> Sets
     requires { ⌜ Gathered x ⌝ }
     ensures { λ r. ⌜ Grouped (shapeOf x) r ⌝ }
 {
-    let xa = x.a;
-    let xb = x.b;
-    let xd = x.d;
-    let xall = x.all;
-    let a = letters_of(xa);
-    let b = letters_of(xb);
-    let d = letters_of(xd);
-    let all = letters_of(xall);
-    let sets = sets_of(a.set, b.set, d.set);
-    Groups {
-        batch: group_of(x, all, sets.batch),
-        row: group_of(x, all, sets.row),
-        column: group_of(x, all, sets.column),
-        depth: group_of(x, all, sets.depth),
-    }
+    let a = x.a;
+    let b = x.b;
+    let d = x.d;
+    sets_of(a.letters.set, b.letters.set, d.letters.set)
 }

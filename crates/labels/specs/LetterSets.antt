@@ -19,7 +19,7 @@ bit s k = s / 2 ^ k % 2
 abbrev pub has : ℕ → ℕ → Bool
 has s c = eqb (bit s (c % 64)) 1
 
--- the letters that the code's list of up to 24 holds
+-- the letters that the code's list holds
 unfoldable pub spelled : Letters → List ℕ
 spelled x = firstOf (x .count) 0 (x .letters)
 

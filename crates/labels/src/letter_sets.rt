@@ -8,6 +8,7 @@ ghost use Rattle.layout.specs.Listed.{listed};
 ghost use Rattle.validity.specs.Letters.{isLetter};
 ghost use Rattle.validity.specs.Checked.{Checked};
 ghost use Rattle.labels.specs.LetterSets.{has, spelled, Spells, added};
+ghost use Rattle.labels.specs.Lettered.{Lettered};
 ghost use Rattle.labels.specs.Labels.{labels};
 use layout::axes::Axes;
 use limits::limits::Limits;
@@ -19,21 +20,21 @@ pub struct Letters {
     pub set: u64,
 }
 
-fn bit_of(c: u8) -> u32
+fn bit_of(c: u32) -> u32
     ensures { λ r. ⌜ r ≡ c % 64 ⌝ }
 {
-    (c as u32) % 64
+    c % 64
 }
 
 // Does the set have the letter?
-pub fn has_letter(set: u64, c: u8) -> bool
+pub fn has_letter(set: u64, c: u32) -> bool
     ensures { λ r. ⌜ r ≡ has set c ⌝ }
 {
     let k = bit_of(c);
     (set >> k) % 2 == 1
 }
 
-fn insert(set: u64, c: u8) -> u64
+fn insert(set: u64, c: u32) -> u64
     ensures { λ r. ⌜ ((d : ℕ) → has r d ≡ (eqb (d % 64) (c % 64) || has set d)) ⌝ }
 {
     let k = bit_of(c);
@@ -57,7 +58,8 @@ impl Letters {
         ensures { λ r. ⌜ Spells r (added c (spelled self)) × (r .count ≤ self .count + 1) ⌝ }
     {
         let set = self.set;
-        if has_letter(set, c) {
+        let code = c as u32;
+        if has_letter(set, code) {
             return self;
         }
         let n = self.count;
@@ -66,7 +68,7 @@ impl Letters {
         Letters {
             letters,
             count: n + 1,
-            set: insert(set, c),
+            set: insert(set, code),
         }
     }
 }
@@ -86,4 +88,31 @@ pub fn letters_of(x: Axes) -> Letters
         i += 1;
     }
     all
+}
+
+// A list of axes beside its different letters.
+pub struct Labelled {
+    pub axes: Axes,
+    pub letters: Letters,
+}
+
+impl Labelled {
+    pub fn none() -> Labelled
+        ensures { λ r. ⌜ Lettered r ⌝ }
+    {
+        Labelled {
+            axes: Axes::none(),
+            letters: Letters::none(),
+        }
+    }
+
+    pub fn of(axes: Axes) -> Labelled
+        requires { ⌜ Checked axes ⌝ }
+        ensures { λ r. ⌜ Lettered r × (r .axes ≡ axes) ⌝ }
+    {
+        Labelled {
+            axes,
+            letters: letters_of(axes),
+        }
+    }
 }

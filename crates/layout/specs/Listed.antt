@@ -6,6 +6,6 @@ use Rattle.layout.specs.declared.layout.Axis.{Axis}
 use Rattle.layout.specs.declared.axes.Axes.{Axes}
 use Rattle.layout.specs.Layout.{noAxis}
 
--- the axes that the code's list of up to 24 holds
+-- the axes that the code's list holds
 unfoldable pub listed : Axes → List Axis
 listed x = firstOf (x .count) noAxis (x .items)

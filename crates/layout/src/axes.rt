@@ -8,7 +8,7 @@ use super::layout::Axis;
 use super::layout::Layout;
 use limits::limits::Limits;
 
-// A list of up to 24 axes: those of one tensor, or of three together.
+// A list of axes: those of one tensor, or of all tensors together.
 pub struct Axes {
     pub items: [Axis; Limits::AXES],
     pub count: usize,

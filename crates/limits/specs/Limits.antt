@@ -21,8 +21,8 @@ sliceLimit = 16777216
 abbrev pub productLimit : ℕ  -- the product of the extents of all different labels
 productLimit = 1073741824
 
-abbrev pub axesLimit : ℕ  -- the letters of three tensors: no limit of the rules, but the room in the code's lists
-axesLimit = 3 * rankLimit
+abbrev pub axesLimit : ℕ  -- the letters of four tensors: no limit of the rules, but the room in the code's lists
+axesLimit = 4 * rankLimit
 
 abbrev pub rowsLimit : ℕ  -- rows of a tile
 rowsLimit = 64

@@ -32,8 +32,8 @@ impl Limits {
     pub const SLICE: usize = 16777216;
 
     pub const PRODUCT: u64 = 1073741824;
-    // The letters of three tensors: room for all axes, labels or letters of a contraction.
-    pub const AXES: usize = 3 * Limits::RANK;
+    // The letters of four tensors: room for all axes, labels or letters of a contraction.
+    pub const AXES: usize = 4 * Limits::RANK;
 
     pub const ROWS: usize = 64;
 

@@ -5,7 +5,7 @@ use contraction::contraction::Contraction;
 use contraction::contraction::Lengths;
 use direct::fill::fill;
 use direct::walk::walk_of;
-use plan::plan::plan_of;
+use plan::plan::output_plan_of;
 use questions::questions::first_no;
 
 // What a call answers: done, or the number of the question that refused.
@@ -24,24 +24,21 @@ pub fn contract(c: Contraction, a: &[u32], b: &[u32], d: &mut [u32]) -> Outcome
         b: b.len(),
         d: d.len(),
     };
-    let number = first_no(c, n);
+    let x = first_no(c, n);
+    let number = x.number;
     if number != 0 {
         return Outcome::Refused(number);
     }
-    let p = plan_of(c, n);
-    let groups = p.groups;
-    let depth = groups.depth;
-    let output = p.output;
-    let base = p.base;
+    let p = output_plan_of(c, x.lists);
     fill(
         a,
         b,
         d,
         c.alpha,
         c.beta,
-        base,
-        walk_of(output),
-        walk_of(depth),
+        p.base,
+        walk_of(p.output),
+        walk_of(p.depth),
     );
     Outcome::Done
 }

@@ -1,16 +1,16 @@
 -- The labels of a contraction that was accepted can be folded: every extent is 1 or more, every stride is small, and the product over the
 -- letters that pass any test is at most the product over all.
 -- Assumes nothing.
-use mathlib.Core.Path.{_≡_, fun-ext}
-use mathlib.Core.Bool.{Bool, _&&_}
-use mathlib.Core.List.{List, [], _∷_, _++_}
+use mathlib.Core.Path.{_≡_, refl, ap, _∙_, fun-ext}
+use mathlib.Core.Bool.{Bool, true, false, _&&_}
+use mathlib.Core.List.{List, [], _∷_, map}
 use Prim.Native.Nat.{ℕ, _<_}
 use native.Mathlib.Decide.{ℕ-discrete}
 use native.Mathlib.Omega.{arith}
 use borrow.Author.Tests.{leb-true}
 use lib.Dec.{leb}
 use Rattle.words.specs.Sums.{product}
-use Rattle.words.specs.Lists.{keep}
+use Rattle.words.specs.Lists.{keep, cons-if}
 use Rattle.words.proofs.Lists.{all-of, all-map}
 use Rattle.words.proofs.Sums.{product-keep, product-map, and-split}
 use Rattle.words.proofs.Tabulate.{length-firstOf}
@@ -19,20 +19,21 @@ use Rattle.layout.specs.declared.layout.Layout.{Layout}
 use Rattle.layout.specs.Layout.{noAxis, axes}
 use Rattle.validity.specs.TensorQuestions.{rankFits, extentsValid, stridesValid, sizesValid}
 use Rattle.labels.specs.Labels.{extentOf, labels}
+use Rattle.labels.specs.LetterSets.{has}
 use Rattle.labels.proofs.Facts.{extents-bound, strides-bound}
 use Rattle.points.specs.LabelQuestions.{points, pointsFit}
 use Rattle.contraction.specs.declared.contraction.Contraction.{Contraction}
-use Rattle.contraction.specs.declared.contraction.Lengths.{Lengths}
 use Rattle.contraction.specs.declared.operands.Operands.{Operands}
-use Rattle.contraction.specs.Operands.{Operand, tensors, lengths, shape, together}
-use Rattle.contraction.specs.TensorAxes.{shapeOf, LowRank, Lists, Gathered}
-use Rattle.questions.specs.Questions.{refusal, tensorQuestions, labelQuestions, entryQuestions, layoutQuestions}
-use Rattle.questions.specs.Answers.{LayoutsPass}
-use Rattle.questions.proofs.Refusal.{refusal-both}
-use Rattle.questions.proofs.Ready.{AllPassed, every-together, low-rank, ready-of}
+use Rattle.contraction.specs.Operands.{Operand, Shape, tensors, shape, together}
+use Rattle.contraction.specs.TensorAxes.{shapeOf, Ready}
+use Rattle.contraction.proofs.Together.{every-together}
+use Rattle.questions.proofs.Ready.{AllPassed}
+use Rattle.groups.specs.declared.groups.Group.{Group as GroupCode}
+use Rattle.groups.specs.Held.{labelsIn}
 use Rattle.groups.specs.Groups.{Label, Group, inGroup, labelsWhere, group, outputs, label, size}
 use Rattle.groups.specs.Foldable.{Small, Foldable}
 use Rattle.folding.specs.Fold.{fold}
+use Rattle.plan.specs.Plan.{AllFoldable}
 use Rattle.folding.specs.FoldedWith.{addTo}
 use Rattle.folding.proofs.Folding.{Folding, fold-start, fold-end, fold-skip, fold-add}
 
@@ -66,6 +67,9 @@ module _ (t : Operand → Layout) (n : Operand → ℕ) (p : AllPassed t n) wher
         points = omega (arith, leb-true (points (together s)) productLimit (p .fit), e, product-keep (λ c. extentOf c (together s)) extent-pos q cs);
       }
 
+  pub all-foldable : AllFoldable (shape t)
+  all-foldable = record { labels = where-foldable }
+
   pub group-foldable : (g : Group) → Foldable (group (shape t) g)
   unfolding group
   group-foldable g = where-foldable (inGroup (shape t) g)
@@ -86,18 +90,30 @@ fold-foldable g h = go g [] (fold-start g h)
         step (yes e) f g = f e
         step (no e) f g = g e
 
-module _ (c : Contraction) (n : Lengths) (a : LayoutsPass (tensors c) (lengths n)) where
-  each-accepted : refusal (tensorQuestions (tensors c) (lengths n)) ≡ 0
-  unfolding layoutQuestions tensorQuestions
-  each-accepted = refusal-both (tensorQuestions (tensors c) (lengths n)) (labelQuestions (tensors c) (lengths n) ++ entryQuestions (tensors c) (lengths n)) tt (a .passed) .0
+-- ---- the code's list of all labels, of which a set keeps some
 
-  pub accepted-rank : LowRank c
-  accepted-rank = low-rank c n each-accepted
+keep-map : {X Y : Type 0} (p : Y → Bool) (f : X → Y) (xs : List X) → keep p (map f xs) ≡ map f (keep (λ x. p (f x)) xs)
+keep-map p f [] = refl
+keep-map p f (x ∷ xs) = go (p (f x)) (keep-map p f xs)
+  where
+    go : (b : Bool) → keep p (map f xs) ≡ map f (keep (λ x. p (f x)) xs)
+        → cons-if b (f x) (keep p (map f xs)) ≡ map f (cons-if b x (keep (λ x. p (f x)) xs))
+    go true e = ap (λ (ys : List _). f x ∷ ys) e
+    go false e = e
 
-  module _ (x : Operands) (l : Lists c x) where
-    pub accepted-gathered : Gathered x
-    accepted-gathered = ready-of c n x each-accepted l .gathered
+module _ (c : Contraction) (x : Operands) (r : Ready c x) (f : AllFoldable (shape (tensors c))) (all : GroupCode)
+    (e : labelsIn all ≡ map (label (shapeOf x)) (labels (together (shapeOf x)))) (set : ℕ) where
+  -- the code's lists have the tensors' axes
+  same-shape : shapeOf x ≡ shape (tensors c)
+  same-shape = fun-ext (r .each)
 
-    -- the code's lists have the tensors' axes
-    pub same-shape : shapeOf x ≡ shape (tensors c)
-    same-shape = fun-ext (l .each)
+  kept : keep (λ l. has set (l .letter)) (labelsIn all) ≡ labelsWhere (shapeOf x) (has set)
+  kept = ap (keep (λ (l : Label). has set (l .letter))) e ∙ keep-map (λ (l : Label). has set (l .letter)) (label (shapeOf x)) (labels (together (shapeOf x)))
+
+  -- what `folded` asks, and what it gives
+  pub fold-asks : Foldable (keep (λ l. has set (l .letter)) (labelsIn all))
+  fold-asks = rw (kept, same-shape) (f .labels (has set))
+
+  pub fold-gives : (g : Shape → List Label) → labelsWhere (shapeOf x) (has set) ≡ g (shapeOf x) → (ls : List Label)
+      → ls ≡ fold (keep (λ l. has set (l .letter)) (labelsIn all)) → ls ≡ fold (g (shape (tensors c)))
+  fold-gives g k ls q = q ∙ ap fold (kept ∙ k) ∙ ap (λ (s : Shape). fold (g s)) same-shape

@@ -1,17 +1,29 @@
--- The plan of a contraction: its four groups and D's labels, folded, and the tensors' bases. Inside contracts only.
+-- What the engines walk of a contraction: its groups, or D's labels and the depth group, folded, and the tensors' bases. Inside contracts only.
 -- Assumes nothing.
-use Prim.Native.Nat.{_≤_}
+use Prim.Native.Nat.{ℕ, _≤_}
 use mathlib.Core.Path.{_≡_}
+use mathlib.Core.Bool.{Bool}
 use Rattle.limits.specs.Limits.{axesLimit}
 use Rattle.layout.specs.declared.layout.Layout.{Layout}
-use Rattle.contraction.specs.Operands.{Operand, shape}
+use Rattle.contraction.specs.Operands.{Operand, Shape, shape}
 use Rattle.groups.specs.declared.groups.Group.{Group as GroupCode}
-use Rattle.groups.specs.Groups.{Group, group, outputs}
+use Rattle.groups.specs.Groups.{Group, depth, labelsWhere, group, outputs}
 use Rattle.groups.specs.Held.{labelsIn}
 use Rattle.groups.specs.Sets.{groupsIn}
+use Rattle.groups.specs.Foldable.{Foldable}
+use Rattle.offsets.specs.declared.offsets.Offsets.{Offsets}
 use Rattle.offsets.specs.Offsets.{wordsIn}
 use Rattle.folding.specs.Fold.{fold}
 use Rattle.plan.specs.declared.plan.Plan.{Plan}
+use Rattle.plan.specs.declared.plan.OutputPlan.{OutputPlan}
+
+-- the labels whose letters pass any test can be folded
+pub record AllFoldable (s : Shape) : Type 0 where
+  pub labels : (p : ℕ → Bool) → Foldable (labelsWhere s p)
+
+-- where each tensor begins
+pub record Bases (t : Operand → Layout) (r : Offsets) : Type 0 where
+  pub bases : (o : Operand) → wordsIn r o ≡ t o .base
 
 -- the code's list for each of the four groups
 abbrev pub planned : Plan → Group → GroupCode
@@ -20,6 +32,11 @@ planned p g = groupsIn (p .groups) g
 pub record Planned (t : Operand → Layout) (p : Plan) : Type 0 where
   pub groups : (g : Group) → labelsIn (planned p g) ≡ fold (group (shape t) g)
   pub few : (g : Group) → planned p g .count ≤ axesLimit
+  pub bases : (o : Operand) → wordsIn (p .base) o ≡ t o .base
+
+pub record OutputPlanned (t : Operand → Layout) (p : OutputPlan) : Type 0 where
   pub output : labelsIn (p .output) ≡ fold (outputs (shape t))
   pub few-output : p .output .count ≤ axesLimit
+  pub depth : labelsIn (p .depth) ≡ fold (group (shape t) depth)
+  pub few-depth : p .depth .count ≤ axesLimit
   pub bases : (o : Operand) → wordsIn (p .base) o ≡ t o .base

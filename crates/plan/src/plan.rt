@@ -1,52 +1,70 @@
-ghost use Rattle.contraction.specs.Operands.{tensors, lengths};
-ghost use Rattle.questions.specs.Answers.{LayoutsPass};
-ghost use Rattle.plan.specs.Plan.{Planned};
+ghost use Rattle.contraction.specs.Operands.{tensors, shape};
+ghost use Rattle.contraction.specs.TensorAxes.{Ready};
+ghost use Rattle.plan.specs.Plan.{AllFoldable, Bases, Planned, OutputPlanned};
 use contraction::contraction::Contraction;
-use contraction::contraction::Lengths;
 use contraction::operands::Operands;
 use folding::fold::folded;
 use groups::groups::Group;
 use groups::groups::Groups;
 use groups::groups::groups_of;
-use groups::groups::output_of;
+use groups::groups::labels_of;
 use offsets::offsets::Offsets;
 
-// What the engines walk: the four groups and D's labels, folded, and where each tensor begins.
+// What tiles walk: the four groups, folded, and where each tensor begins.
 pub struct Plan {
     pub groups: Groups,
-    pub output: Group,
     pub base: Offsets,
 }
 
-// The plan of a contraction that questions 1 to 9 accept for slices of these lengths.
-pub fn plan_of(c: Contraction, n: Lengths) -> Plan
-    requires { ⌜ LayoutsPass (tensors c) (lengths n) ⌝ }
-    ensures { λ r. ⌜ Planned (tensors c) r ⌝ }
+// What the plain engine walks: D's labels and the depth group, folded, and where each tensor begins.
+pub struct OutputPlan {
+    pub output: Group,
+    pub depth: Group,
+    pub base: Offsets,
+}
+
+fn base_of(c: Contraction) -> Offsets
+    ensures { λ r. ⌜ Bases (tensors c) r ⌝ }
 {
-    let x = Operands::of(c);
-    let output = output_of(x);
-    let all = groups_of(x);
-    let batch = all.batch;
-    let row = all.row;
-    let column = all.column;
-    let depth = all.depth;
     let a = c.a;
     let b = c.b;
     let d = c.d;
-    let groups = Groups {
-        batch: folded(batch),
-        row: folded(row),
-        column: folded(column),
-        depth: folded(depth),
-    };
-    let base = Offsets {
+    Offsets {
         a: a.base as u64,
         b: b.base as u64,
         d: d.base as u64,
+    }
+}
+
+// The plan of a contraction that questions 1 to 9 accept, from the lists of its axes.
+pub fn plan_of(c: Contraction, x: Operands) -> Plan
+    requires { ⌜ Ready c x × AllFoldable (shape (tensors c)) ⌝ }
+    ensures { λ r. ⌜ Planned (tensors c) r ⌝ }
+{
+    let all = labels_of(x);
+    let sets = groups_of(x);
+    let groups = Groups {
+        batch: folded(all, sets.batch),
+        row: folded(all, sets.row),
+        column: folded(all, sets.column),
+        depth: folded(all, sets.depth),
     };
     Plan {
         groups,
-        output: folded(output),
-        base,
+        base: base_of(c),
+    }
+}
+
+pub fn output_plan_of(c: Contraction, x: Operands) -> OutputPlan
+    requires { ⌜ Ready c x × AllFoldable (shape (tensors c)) ⌝ }
+    ensures { λ r. ⌜ OutputPlanned (tensors c) r ⌝ }
+{
+    let all = labels_of(x);
+    let sets = groups_of(x);
+    let d = x.d;
+    OutputPlan {
+        output: folded(all, d.letters.set),
+        depth: folded(all, sets.depth),
+        base: base_of(c),
     }
 }

@@ -2,10 +2,10 @@ ghost use mathlib.Core.Path.{_≡_};
 ghost use Prim.Native.Nat.{_+_, _*_, min, _≤_};
 ghost use Rattle.limits.specs.Limits.{productLimit, axesLimit};
 ghost use Rattle.layout.specs.Listed.{listed};
-ghost use Rattle.validity.specs.Checked.{Checked};
+ghost use Rattle.labels.specs.Lettered.{Lettered};
 ghost use Rattle.points.specs.LabelQuestions.{extentsAgree, pointsFit};
 use labels::labels::extent_of;
-use labels::letter_sets::letters_of;
+use labels::letter_sets::Labelled;
 use layout::axes::Axes;
 use limits::limits::Limits;
 
@@ -39,17 +39,16 @@ fn capped(extent: u32, product: u64) -> u64
 }
 
 // Question 7.
-pub fn points_fit(x: Axes) -> bool
-    requires { ⌜ Checked x ⌝ }
-    ensures { λ r. ⌜ r ≡ pointsFit (listed x) ⌝ }
+pub fn points_fit(x: Labelled) -> bool
+    requires { ⌜ Lettered x ⌝ }
+    ensures { λ r. ⌜ r ≡ pointsFit (listed (x .axes)) ⌝ }
 {
-    let all = letters_of(x);
-    let letters = all.letters;
+    let all = x.letters;
     let mut i = all.count;
     let mut product: u64 = 1;
     while 0 < i {
         i -= 1;
-        product = capped(extent_of(x, letters[i]), product);
+        product = capped(extent_of(x.axes, all.letters[i]), product);
     }
     product <= Limits::PRODUCT
 }

@@ -1,3 +1,4 @@
+pub mod Joined
 pub mod QuestionCases
 pub mod Ready
 pub mod Refusal

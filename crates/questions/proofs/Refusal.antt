@@ -1,5 +1,5 @@
 -- Laws of a list of questions: what its refusal says of each question, the refusal of two lists one behind the other, a question that is
--- put to every tensor, and an answer by the refusal. A fourth tensor is one clause more in `ofEach-true` and in `three-ofEach`.
+-- put to every tensor, and an answer by the refusal. A fourth tensor is one clause more in `of-each`.
 -- Assumes nothing.
 use mathlib.Core.Path.{_≡_, refl, sym, ap, _∙_}
 use mathlib.Core.Bool.{Bool, true, false, not, cond}
@@ -11,8 +11,8 @@ use borrow.Author.Tests.{not-true, not-false, eq-eqb, ne-eqb}
 use Rattle.words.specs.Sums.{every, All}
 use Rattle.words.proofs.Lists.{T-true}
 use Rattle.words.proofs.Sums.{and-split, every-all}
-use Rattle.contraction.specs.Operands.{Operand, A, B, D, operands, three}
-use Rattle.questions.specs.Questions.{Question, ask, refusal, ofEach}
+use Rattle.contraction.specs.Operands.{Operand, A, B, D, operands}
+use Rattle.questions.specs.Questions.{Question, ask, refusal}
 
 -- every question's number is above 0, so that 0 says that none failed
 abbrev pub Numbered : List Question → Type 0
@@ -61,9 +61,9 @@ refusal-both (x ∷ xs) ys k e =
     let r = refusal-both xs ys (others x xs k) (h .1) in
     (rw (h .0) (r .0), r .1)
 
--- a question that passes of every tensor passes of each
-pub ofEach-true : (p : Operand → Bool) → ofEach p ≡ true → (o : Operand) → p o ≡ true
-ofEach-true p e o = T-true (p o) (at o)
+-- a question that passes of every tensor of a contraction passes of each
+pub of-each : (p : Operand → Bool) → every p operands ≡ true → (o : Operand) → p o ≡ true
+of-each p e o = T-true (p o) (at o)
   where
     each : All (λ o. T (p o)) operands
     each = every-all p operands (rw e tt)
@@ -72,10 +72,6 @@ ofEach-true p e o = T-true (p o) (at o)
     at A = each .0
     at B = each .1 .0
     at D = each .1 .1 .0
-
--- the answers of the tensors, put together, are the question's
-pub three-ofEach : (p : Operand → Bool) {r a b d : Bool} → r ≡ ofEach (three a b d) → a ≡ p A → b ≡ p B → d ≡ p D → r ≡ ofEach p
-three-ofEach p e ea eb ed = rw (e, ea, eb, ed)
 
 -- the code's answer r to a question p was tested by `!r`
 module _ {r p : Bool} (e : r ≡ p) where

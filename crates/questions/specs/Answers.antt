@@ -1,24 +1,39 @@
--- The answers of the code's records, and that questions 1 to 9 passed. Inside contracts only: no outside call requires any of it.
+-- What a tensor answers for itself, the answers of several joined, and that questions 1 to 9 passed. Inside contracts only: no outside call requires any
+-- of it.
 -- Assumes nothing.
-use Prim.Native.Nat.{ℕ}
+use Prim.Native.Nat.{ℕ, min}
 use mathlib.Core.Path.{_≡_}
+use mathlib.Core.Bool.{cond}
+use mathlib.Core.List.{List, [], _∷_}
+use lib.Dec.{eqb}
 use Rattle.layout.specs.declared.layout.Layout.{Layout}
-use Rattle.layout.specs.Layout.{axes}
-use Rattle.validity.specs.declared.tensor_questions.Valid.{Valid}
-use Rattle.validity.specs.Checked.{ValidOf}
 use Rattle.contraction.specs.declared.contraction.Contraction.{Contraction}
-use Rattle.contraction.specs.Operands.{Operand, three, tensors}
-use Rattle.questions.specs.declared.questions.Answers.{Answers}
-use Rattle.questions.specs.Questions.{refusal, layoutQuestions}
+use Rattle.contraction.specs.Operands.{Operand, tensors}
+use Rattle.contraction.specs.TensorAxes.{ListOf, Ready}
+use Rattle.questions.specs.declared.tensor_answers.Answer.{Answer}
+use Rattle.questions.specs.declared.tensor_answers.Asked.{Asked}
+use Rattle.questions.specs.declared.questions.Listed.{Listed}
+use Rattle.questions.specs.Questions.{Lent, refusal, tensorQuestions, entriesInside, layoutQuestions}
 
--- the code's record for each tensor
-abbrev pub answersIn : Answers → Operand → Valid
-answersIn v = three (v .a) (v .b) (v .d)
+-- of two numbers of questions that failed the one that is asked sooner; 0 is none
+abbrev pub sooner : ℕ → ℕ → ℕ
+sooner m n = cond (eqb m 0) n (cond (eqb n 0) m (min m n))
 
--- the answers of the tensors' axes to questions 3, 4 and 5
-pub record Answered (c : Contraction) (v : Answers) : Type 0 where
-  pub each : (o : Operand) → ValidOf (axes (tensors c o)) (answersIn v o)
+-- the answer of some tensors: the first of questions 1 to 5 that one of them fails; and where there is none, whether the entries of each are inside
+pub record AnswerOf (xs : List Lent) (r : Answer) : Type 0 where
+  pub number : r .number ≡ refusal (tensorQuestions xs)
+  pub inside : refusal (tensorQuestions xs) ≡ 0 → r .inside ≡ entriesInside xs
+
+-- a tensor's own answer, and where questions 1 to 5 passed the list of its axes
+pub record AskedOf (l : Layout) (n : ℕ) (r : Asked) : Type 0 where
+  pub answer : AnswerOf (record { layout = l; words = n } ∷ []) (r .answer)
+  pub lists : r .answer .number ≡ 0 → ListOf l (r .lists)
 
 -- questions 1 to 9 passed
 pub record LayoutsPass (t : Operand → Layout) (n : Operand → ℕ) : Type 0 where
   pub passed : refusal (layoutQuestions t n) ≡ 0
+
+-- the number that questions 1 to 9 refuse with, and where that is 0 the lists of the axes of each tensor and of all
+pub record ListedOf (c : Contraction) (n : Operand → ℕ) (r : Listed) : Type 0 where
+  pub number : r .number ≡ refusal (layoutQuestions (tensors c) n)
+  pub lists : r .number ≡ 0 → Ready c (r .lists)

@@ -2,7 +2,7 @@
 -- Assumes nothing.
 use Prim.Native.Nat.{ℕ}
 use mathlib.Core.Bool.{Bool, cond}
-use mathlib.Core.List.{List, [], _∷_, _++_}
+use mathlib.Core.List.{List, [], _∷_, _++_, map}
 use Rattle.words.specs.Sums.{every}
 use Rattle.layout.specs.declared.layout.Layout.{Layout}
 use Rattle.layout.specs.Layout.{axes}
@@ -24,20 +24,29 @@ abbrev pub refusal : List Question → ℕ
 refusal [] = 0
 refusal (q ∷ qs) = cond (q .passes) (refusal qs) (q .number)
 
--- a question that is put to every tensor
-abbrev pub ofEach : (Operand → Bool) → Bool
-ofEach p = every p operands
+-- a tensor as it is lent: its layout, and how many words its slice has
+pub record Lent : Type 0 where
+  pub layout : Layout
+  pub words : ℕ
+
+-- 1 to 5: of each tensor by itself; a question that is put to several tensors passes where each passes
+unfoldable pub tensorQuestions : List Lent → List Question
+tensorQuestions xs =
+    ask 1 (every (λ x. rankFits (x .layout)) xs)
+    ∷ ask 2 (every (λ x. countsMatch (x .layout)) xs)
+    ∷ ask 3 (every (λ x. lettersValid (axes (x .layout))) xs)
+    ∷ ask 4 (every (λ x. extentsValid (axes (x .layout))) xs)
+    ∷ ask 5 (every (λ x. sizesValid (x .layout) (x .words)) xs)
+    ∷ []
+
+-- 8: do the entries of each tensor fall inside its slice?
+abbrev pub entriesInside : List Lent → Bool
+entriesInside xs = every (λ x. inside (axes (x .layout)) (x .layout .base) (x .words)) xs
 
 module _ (t : Operand → Layout) (n : Operand → ℕ) where
-  -- 1 to 5: of each tensor by itself
-  unfoldable pub tensorQuestions : List Question
-  tensorQuestions =
-      ask 1 (ofEach (λ o. rankFits (t o)))
-      ∷ ask 2 (ofEach (λ o. countsMatch (t o)))
-      ∷ ask 3 (ofEach (λ o. lettersValid (axes (t o))))
-      ∷ ask 4 (ofEach (λ o. extentsValid (axes (t o))))
-      ∷ ask 5 (ofEach (λ o. sizesValid (t o) (n o)))
-      ∷ []
+  -- the tensors of a contraction
+  abbrev pub lentTensors : List Lent
+  lentTensors = map (λ o. record { layout = t o; words = n o }) operands
 
   -- 6 and 7: of the labels of all tensors
   unfoldable pub labelQuestions : List Question
@@ -49,10 +58,10 @@ module _ (t : Operand → Layout) (n : Operand → ℕ) where
   -- 8 and 9: of the entries
   unfoldable pub entryQuestions : List Question
   entryQuestions =
-      ask 8 (ofEach (λ o. inside (axes (t o)) (t o .base) (n o)))
+      ask 8 (entriesInside lentTensors)
       ∷ ask 9 (apart (axes (t D)))
       ∷ []
 
   -- 1 to 9: of the layouts and the slices' lengths
   unfoldable pub layoutQuestions : List Question
-  layoutQuestions = tensorQuestions ++ (labelQuestions ++ entryQuestions)
+  layoutQuestions = tensorQuestions lentTensors ++ (labelQuestions ++ entryQuestions)

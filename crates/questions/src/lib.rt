@@ -1,2 +1,3 @@
 // Questions 1 to 9 about a contraction, in their order.
 pub mod questions;
+pub mod tensor_answers;

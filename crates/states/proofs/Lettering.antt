@@ -43,9 +43,9 @@ use Rattle.tile_blocks.specs.ContractionInTiles.{cutOf, setting}
 use Rattle.tile_blocks.specs.Planned.{GridOf, PlanFits, placeD}
 use Rattle.tile_questions.specs.TileQuestions.{sizeQuestion, roomQuestion, doneQuestion, acceptQuestions, Accepted, tileQuestions}
 use Rattle.tiled.specs.TileCall.{ran, tileRefused, TileCall, tileCallOf, ranCall, tileCall}
-use Rattle.tiled.proofs.Accepted.{plan-asks, grid-asks, grid-cut}
-use Rattle.tiled.proofs.TileAnswered.{same-questions, numbered, accepted}
-use Rattle.tiled.proofs.Reaches.{reaches-d, clear}
+use Rattle.accept.proofs.AcceptQuestions.{same-questions, numbered, accepted}
+use Rattle.accept.proofs.Accepted.{grid-cut}
+use Rattle.accept.proofs.Reaches.{reaches-d, clear}
 use Rattle.tiled.proofs.Soundness.{setting-same, sound}
 use Rattle.states.specs.StateLetters.{letterOf, outside, stateLetters, EveryLetterRight}
 use Rattle.states.specs.Placed.{Placed, lettered, columnLetters}
@@ -166,15 +166,11 @@ module _ (c : Contraction) (z : Sizes) (a b d : List ℕ) (ok : Accepted c z (th
   nine : AllPassed (tensors c) (λ o. length (three a b d o))
   nine = accepted c z (three a b d) (ok .passed) .0
 
-  -- what `plan_of` asks
-  pub plan-asked : LayoutsPass (tensors c) (lengths (lengthsOf a b d))
-  plan-asked = plan-asks c z a b d refl ten
+  -- the number that `Accept::of` answers is 0
+  pub none-refused : {k : ℕ} → k ≡ refusal (layoutQuestions (tensors c) (lengths (lengthsOf a b d)) ++ sizeQuestion z) → k ≡ 0
+  none-refused e = e ∙ ten
 
   module _ (p : Plan) (q : Planned (tensors c) p) where
-    -- what `grid_of` asks
-    pub grid-asked : PlanFits p z
-    grid-asked = grid-asks c z a b d refl ten p q
-
     module _ (g : Grid) (o : GridOf p g × (g .sizes ≡ z)) where
       cut : cutIn g ≡ cutOf c z
       cut = grid-cut c z a b d refl ten p q g o

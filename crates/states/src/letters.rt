@@ -11,12 +11,11 @@ ghost use Rattle.tile_blocks.specs.Planned.{GridOf};
 ghost use Rattle.tile_questions.specs.TileQuestions.{Accepted};
 ghost use Rattle.states.specs.StateLetters.{letterOf, stateLetters, outside};
 ghost use Rattle.states.specs.Placed.{Placed, lettered, columnLetters};
+use accept::accept::Accept;
 use contraction::contraction::Contraction;
 use contraction::contraction::Lengths;
 use offsets::offsets::Offsets;
 use plan::plan::Plan;
-use plan::plan::plan_of;
-use tile_blocks::plan_grid::grid_of;
 use tiles::grid::Grid;
 use tiles::grid::Sizes;
 use tiles::grid::State;
@@ -110,9 +109,9 @@ pub fn letters_after(
         b: b.len(),
         d: d.len(),
     };
-    let p = plan_of(c, n);
-    let g = grid_of(p, z);
+    let x = Accept::of(c, z, n);
+    let g = x.grid;
     clear(out);
-    letter_batches(p, g, t, out);
+    letter_batches(x.plan, g, t, out);
     g.total
 }

@@ -1,14 +1,12 @@
 ghost use mathlib.Core.Path.{_≡_};
+ghost use mathlib.Core.Bool.{cond};
 ghost use mathlib.Core.List.{_++_};
-ghost use Rattle.contraction.specs.Operands.{tensors, lengths};
-ghost use Rattle.questions.specs.Questions.{refusal, layoutQuestions};
+ghost use lib.Dec.{eqb};
+ghost use Rattle.questions.specs.Questions.{refusal};
 ghost use Rattle.tiles.specs.Grid.{cutIn, Counted};
 ghost use Rattle.tile_questions.specs.TileQuestions.{within, sizesFit, sizeQuestion, roomQuestion, doneQuestion, indexQuestion};
-use contraction::contraction::Contraction;
-use contraction::contraction::Lengths;
 use limits::limits::Limits;
-use questions::questions::ask;
-use questions::questions::first_no;
+use questions::tensor_answers::ask;
 use tiles::grid::Grid;
 use tiles::grid::Sizes;
 
@@ -26,11 +24,10 @@ fn sizes_fit(z: Sizes) -> bool
     within(z.rows, Limits::ROWS) & (within(z.cols, Limits::COLS) & within(z.depth, Limits::DEPTH))
 }
 
-// Questions 1 to 10: the number of the first no, or 0.
-pub fn accept_refusal(c: Contraction, z: Sizes, n: Lengths) -> u32
-    ensures { λ r. ⌜ r ≡ refusal (layoutQuestions (tensors c) (lengths n) ++ sizeQuestion z) ⌝ }
+// Question 10, asked where questions 1 to 9 gave 0: the number of the first no, or 0.
+pub fn size_refusal(number: u32, z: Sizes) -> u32
+    ensures { λ r. ⌜ r ≡ cond (eqb number 0) (refusal (sizeQuestion z)) number ⌝ }
 {
-    let number = first_no(c, n);
     if number != 0 {
         return number;
     }

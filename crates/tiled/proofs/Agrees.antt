@@ -28,7 +28,7 @@ use Rattle.tile_blocks.specs.Side.{Side, left, right, both, tensorOn, sizeOn, t
 use Rattle.tile_blocks.specs.ContractionInTiles.{groupCounts, cutOf, entryAt, setting}
 use Rattle.tile_blocks.specs.Planned.{readIn, planSetting}
 use Rattle.tiling.specs.Work.{packedBlock, packed, packedLast, entryOn, workAfter}
-use Rattle.tiled.proofs.Reaches.{side-entry, reaches-d}
+use Rattle.accept.proofs.Reaches.{side-entry, reaches-d}
 
 -- entries that agree at every count in range are packed alike: the words of a block, and of the work slice
 module _ (G : Cut) {entry entry′ : Side → ℕ → ℕ → ℕ → ℕ}

@@ -25,7 +25,8 @@ use Rattle.tile_questions.specs.TileQuestions.{workFits, acceptQuestions}
 use Rattle.tiled.specs.TileCall.{doneIn, ran, tileRefused, TileCall, tileCallOf, ranCall, tileCall, stateCall}
 use Rattle.tiled.specs.Demand3.{Call, tiles, state, Answer, tiled, found, After, run, next, answer, count, answers, Demand3, EveryListMeetsDemand3}
 use Rattle.tiled.proofs.Soundness.{setting-same, sound}
-use Rattle.tiled.proofs.TileAnswered.{same-questions, accepted, tile-answers, state-answers}
+use Rattle.accept.proofs.AcceptQuestions.{same-questions, accepted}
+use Rattle.tiled.proofs.TileAnswered.{tile-answers, state-answers}
 
 -- ---- the count of tiles done
 

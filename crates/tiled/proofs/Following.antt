@@ -25,7 +25,7 @@ use Rattle.tile_blocks.specs.ContractionInTiles.{cutOf, addressAt, setting}
 use Rattle.tile_questions.specs.TileQuestions.{sizesFit, workFits, Accepted}
 use Rattle.tiled.specs.Demand3.{Call, tiles, run, next, count, Consequences, ConsequencesHold}
 use Rattle.tiled.proofs.Soundness.{closed-result}
-use Rattle.tiled.proofs.TileAnswered.{accepted}
+use Rattle.accept.proofs.AcceptQuestions.{accepted}
 use Rattle.tiled.proofs.Demand3.{count-le, words-closed, demand3}
 
 -- ---- the state by one panel: the panels done are the first ones

@@ -1,7 +1,5 @@
-pub mod Accepted
 pub mod Agrees
 pub mod TileAnswered
 pub mod Demand3
 pub mod Following
-pub mod Reaches
 pub mod Soundness

@@ -10,49 +10,19 @@ use lib.Dec.{eqb, leb, ltb}
 use lib.ListN.{length}
 use borrow.Author.Tests.{le-leb}
 use Rattle.contraction.specs.declared.contraction.Contraction.{Contraction}
-use Rattle.contraction.specs.Operands.{Operand, A, B, D, three, tensors, lengths}
-use Rattle.contraction.proofs.SliceLengths.{lengthsOf, slice-lengths}
-use Rattle.questions.specs.Questions.{Question, refusal, tensorQuestions, labelQuestions, entryQuestions, layoutQuestions}
-use Rattle.questions.proofs.Refusal.{Numbered, passed, refusal-next, refusal-first, refusal-both, answers-no, answers-yes}
-use Rattle.questions.proofs.Ready.{AllPassed, accepted-parts}
+use Rattle.contraction.specs.Operands.{D}
+use Rattle.questions.specs.Questions.{Question, refusal}
+use Rattle.questions.proofs.Refusal.{refusal-next, refusal-first, answers-no, answers-yes}
 use Rattle.meaning.specs.Meaning.{Slices}
 use Rattle.tiles.specs.declared.grid.Sizes.{Sizes}
 use Rattle.tiles.specs.Cut.{total}
 use Rattle.tiles.specs.Progress.{stateAt}
 use Rattle.tile_blocks.specs.ContractionInTiles.{cutOf}
-use Rattle.tile_questions.specs.TileQuestions.{sizesFit, sizeQuestion, roomQuestion, doneQuestion, indexQuestion, acceptQuestions, tileQuestions, stateQuestions}
+use Rattle.tile_questions.specs.TileQuestions.{roomQuestion, doneQuestion, indexQuestion, acceptQuestions, tileQuestions, stateQuestions}
+use Rattle.accept.proofs.AcceptQuestions.{numbered}
 use Rattle.tiled.specs.TileCall.{TileCall, tileRefused, is, stateRefused, tileCallOf, ranCall, tileCall, stateCall}
 
--- the number that the code took of the slices' lengths
-pub asked : (c : Contraction) (z : Sizes) (a b d : List ℕ) {k : ℕ} → k ≡ refusal (layoutQuestions (tensors c) (lengths (lengthsOf a b d)) ++ sizeQuestion z)
-    → k ≡ refusal (acceptQuestions c z (three a b d))
-unfolding acceptQuestions
-asked c z a b d e = e ∙ ap (λ (n : Operand → ℕ). refusal (layoutQuestions (tensors c) n ++ sizeQuestion z)) (slice-lengths a b d)
-
--- of D's slice they read the length alone
-pub same-questions : (c : Contraction) (z : Sizes) (a b d e : List ℕ) → length e ≡ length d
-    → refusal (acceptQuestions c z (three a b e)) ≡ refusal (acceptQuestions c z (three a b d))
-unfolding acceptQuestions
-same-questions c z a b d e same = ap (λ (n : Operand → ℕ). refusal (layoutQuestions (tensors c) n ++ sizeQuestion z)) (λ k o. lengths-same o k)
-  where
-    lengths-same : (o : Operand) → length (three a b e o) ≡ length (three a b d o)
-    lengths-same A = refl
-    lengths-same B = refl
-    lengths-same D = same
-
 module _ (c : Contraction) (z : Sizes) (w : Slices) where
-  -- none of their numbers is 0
-  pub numbered : Numbered (acceptQuestions c z w)
-  unfolding acceptQuestions layoutQuestions tensorQuestions labelQuestions entryQuestions sizeQuestion
-  numbered = tt
-
-  pub accepted : refusal (acceptQuestions c z w) ≡ 0 → AllPassed (tensors c) (λ o. length (w o)) × (sizesFit z ≡ true)
-  unfolding acceptQuestions layoutQuestions tensorQuestions labelQuestions entryQuestions sizeQuestion
-  accepted e =
-      let n : Operand → ℕ = λ o. length (w o) in
-      let both = refusal-both (layoutQuestions (tensors c) n) (sizeQuestion z) tt e in
-      (accepted-parts (tensors c) n (both .0), passed (sizeQuestion z) tt (both .1) .0)
-
   -- a call that asks 1 to 10 and then the rest: x where all pass, else f of the number that refuses
   module _ (rest : List Question) {X : Type 0} (x : X) (f : ℕ → X) where
     abbrev number : ℕ
@@ -68,7 +38,7 @@ module _ (c : Contraction) (z : Sizes) (w : Slices) where
     -- they pass, and the rest gives k
     module _ (a : refusal (acceptQuestions c z w) ≡ 0) {k : ℕ} (e : k ≡ refusal rest) where
       late : number ≡ k
-      late = refusal-next (acceptQuestions c z w) rest numbered a ∙ sym e
+      late = refusal-next (acceptQuestions c z w) rest (numbered c z w) a ∙ sym e
 
       late-refuses : (k ≡ 0 → ⊥) → f k ≡ answer
       late-refuses = answers-no x f late

@@ -3,11 +3,9 @@ ghost use Prim.Native.Nat.{min};
 ghost use Rattle.contraction.specs.Operands.{three};
 ghost use Rattle.tiles.specs.Grid.{stateOf};
 ghost use Rattle.tiled.specs.TileCall.{is, tileAnswer, stateAnswer, tileCallOf, tileCall, stateCall};
+use accept::accept::Accept;
 use contraction::contraction::Contraction;
 use contraction::contraction::Lengths;
-use plan::plan::plan_of;
-use tile_blocks::plan_grid::grid_of;
-use tile_questions::refusals::accept_refusal;
 use tile_questions::refusals::state_refusal;
 use tile_questions::refusals::tile_refusal;
 use tiles::grid::Sizes;
@@ -64,12 +62,12 @@ pub fn run(
         b: b.len(),
         d: d.len(),
     };
-    let number = accept_refusal(c, z, n);
+    let x = Accept::of(c, z, n);
+    let number = x.number;
     if number != 0 {
         return Outcome::Refused { number, done };
     }
-    let p = plan_of(c, n);
-    let g = grid_of(p, z);
+    let g = x.grid;
     let number = tile_refusal(g, work.len(), done);
     if number != 0 {
         return Outcome::Refused { number, done };
@@ -77,7 +75,7 @@ pub fn run(
     let total = g.total;
     let left = total - done;
     let count = smaller(budget, left);
-    let t = run_tiles(p, g, c.alpha, c.beta, a, b, d, work, done, count);
+    let t = run_tiles(x.plan, g, c.alpha, c.beta, a, b, d, work, done, count);
     Outcome::Ran {
         done: t,
         complete: t == total,
@@ -103,12 +101,12 @@ pub fn state(
         b: b.len(),
         d: d.len(),
     };
-    let number = accept_refusal(c, z, n);
+    let x = Accept::of(c, z, n);
+    let number = x.number;
     if number != 0 {
         return Found::Refused(number);
     }
-    let p = plan_of(c, n);
-    let g = grid_of(p, z);
+    let g = x.grid;
     let number = state_refusal(g, done, h, i, j);
     if number != 0 {
         return Found::Refused(number);

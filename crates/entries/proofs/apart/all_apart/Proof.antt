@@ -16,40 +16,37 @@ use Rattle.entries.proofs.apart.all_apart.Statement.{statement}
 use Rattle.entries.proofs.apart.all_apart.Tie as tie
 
 abbrev Inv-loop : tie.InvT-loop
-Inv-loop x all letters i₀ apart₀ i apart =
-    (i ≤ i₀) × (apart ≡ every (λ c. leb (extentOf c (listed x)) 1 || ltb (below (listed x) c) (strideSize (listed x) c)) (from 0 letters i₀ i))
+Inv-loop x all i₀ apart₀ i apart =
+    (i ≤ i₀) × (apart ≡ every (λ c. leb (extentOf c (listed (x .axes))) 1 || ltb (below (listed (x .axes)) c) (strideSize (listed (x .axes)) c)) (from 0 (all .letters) i₀ i))
 
 abbrev μ-loop : tie.MeasureT-loop
-μ-loop x all letters i₀ apart₀ i apart = i
-
-letters-of-requires : tie.Need-letters-of-requires Inv-loop μ-loop
-letters-of-requires c κs = c .pre
+μ-loop x all i₀ apart₀ i apart = i
 
 loop-holds : tie.Need-loop-holds Inv-loop μ-loop
-loop-holds c = let all = c .before .letters-of .result in (omega arith, rw (from-end 0 (all .letters) (all .count)))
+loop-holds c = let all = c .before .args .x .letters in (omega arith, rw (from-end 0 (all .letters) (all .count)))
 
 sub-i : tie.Need-sub-i Inv-loop μ-loop
 sub-i c = omega arith
 
-array-read-c : tie.Need-array-read-c Inv-loop μ-loop
-array-read-c c = omega (arith, c .before .before .before .letters-of .ensures .few)
+element-copy-out-c : tie.Need-element-copy-out-c Inv-loop μ-loop
+element-copy-out-c c = omega (arith, c .before .before .before .pre .spells .few)
 
 extent-of-requires : tie.Need-extent-of-requires Inv-loop μ-loop
-extent-of-requires c κs = c .before .before .before .before .pre .few
+extent-of-requires c κs = c .before .before .before .before .pre .checked .few
 
 sum-below-requires : tie.Need-sum-below-requires Inv-loop μ-loop
-sum-below-requires c κs = (c .before .before .before .before .before .pre, c .before .before .before .before .letters-of .ensures)
+sum-below-requires c κs = c .before .before .before .before .before .pre
 
 stride-size-requires : tie.Need-stride-size-requires Inv-loop μ-loop
-stride-size-requires c κs = c .before .before .before .before .before .before .pre
+stride-size-requires c κs = c .before .before .before .before .before .before .pre .checked
 
 loop-less : tie.Need-loop-less Inv-loop μ-loop
 loop-less c = omega arith
 
 loop-again : tie.Need-loop-again Inv-loop μ-loop
 loop-again c =
-    let l = c .before .before .before .before .loop in
-    let all = c .before .before .before .before .before .before .letters-of .result in (
+    let l = c .before .before .before .before .before .loop in
+    let all = c .before .before .before .before .before .before .before .args .x .letters in (
       omega arith,
       rw (
         c .before .before .extent-of .ensures,
@@ -65,7 +62,7 @@ unfolding apart spelled
 returns c =
     let l = c .before .loop in
     let z : l .i ≡ 0 = omega arith in
-    rw (l .inv .1, z, ← c .before .before .before .letters-of .ensures .spells)
+    rw (l .inv .1, z, ← c .before .before .before .pre .spells .spells)
 
 pub all-apart-spec : {M : Type 1} → statement M
 all-apart-spec =
@@ -73,10 +70,9 @@ all-apart-spec =
     (tie.spec
     Inv-loop
     μ-loop
-    letters-of-requires
     loop-holds
     sub-i
-    array-read-c
+    element-copy-out-c
     extent-of-requires
     sum-below-requires
     stride-size-requires

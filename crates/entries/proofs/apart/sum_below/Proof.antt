@@ -16,39 +16,39 @@ use Rattle.entries.proofs.apart.sum_below.Statement.{statement}
 use Rattle.entries.proofs.apart.sum_below.Tie as tie
 
 abbrev Inv-loop : tie.InvT-loop
-Inv-loop x c letters i₀ sum₀ i sum =
+Inv-loop x c all i₀ sum₀ i sum =
     (i ≤ i₀)
     × (sum
     ≡ sumOf
-    (λ d. cond (not (eqb c d) && leb (strideSize (listed x) d) (strideSize (listed x) c)) ((extentOf d (listed x) - 1) * strideSize (listed x) d) 0)
-    (from 0 letters i₀ i))
+    (λ d. cond (not (eqb c d) && leb (strideSize (listed (x .axes)) d) (strideSize (listed (x .axes)) c)) ((extentOf d (listed (x .axes)) - 1) * strideSize (listed (x .axes)) d) 0)
+    (from 0 (all .letters) i₀ i))
     × (sum ≤ (i₀ - i) * 2 ^ 48)
 
 abbrev μ-loop : tie.MeasureT-loop
-μ-loop x c letters i₀ sum₀ i sum = i
+μ-loop x c all i₀ sum₀ i sum = i
 
 loop-holds : tie.Need-loop-holds Inv-loop μ-loop
-loop-holds c = let all = c .before .args .all in (omega arith, rw (from-end 0 (all .letters) (all .count)), omega arith)
+loop-holds c = let all = c .before .args .x .letters in (omega arith, rw (from-end 0 (all .letters) (all .count)), omega arith)
 
 sub-i : tie.Need-sub-i Inv-loop μ-loop
 sub-i c = omega arith
 
-array-read-share : tie.Need-array-read-share Inv-loop μ-loop
-array-read-share c = omega (arith, c .before .before .before .pre .1 .few)
+element-copy-out-share : tie.Need-element-copy-out-share Inv-loop μ-loop
+element-copy-out-share c = omega (arith, c .before .before .before .pre .spells .few)
 
 share-requires : tie.Need-share-requires Inv-loop μ-loop
-share-requires c κs = c .before .before .before .pre .0
+share-requires c κs = c .before .before .before .before .pre .checked
 
 add-sum : tie.Need-add-sum Inv-loop μ-loop
-add-sum c = omega (arith, c .before .before .before .before .pre .1 .few)
+add-sum c = omega (arith, c .before .before .before .before .before .pre .spells .few)
 
 loop-less : tie.Need-loop-less Inv-loop μ-loop
 loop-less c = omega arith
 
 loop-again : tie.Need-loop-again Inv-loop μ-loop
 loop-again c =
-    let l = c .before .before .loop in
-    let all = c .before .before .before .before .args .all in (
+    let l = c .before .before .before .loop in
+    let all = c .before .before .before .before .before .args .x .letters in (
       omega arith,
       rw (c .share .ensures .0, l .inv .1, from-before 0 (all .letters) (all .count) (l .i) (omega arith) (omega arith)),
       omega arith,
@@ -59,7 +59,7 @@ unfolding below spelled
 returns c =
     let l = c .before .loop in
     let z : l .i ≡ 0 = omega arith in
-    rw (l .inv .1, z, ← c .before .before .before .pre .1 .spells)
+    rw (l .inv .1, z, ← c .before .before .before .pre .spells .spells)
 
 pub sum-below-spec : {M : Type 1} → statement M
 sum-below-spec =
@@ -69,7 +69,7 @@ sum-below-spec =
     μ-loop
     loop-holds
     sub-i
-    array-read-share
+    element-copy-out-share
     share-requires
     add-sum
     loop-less

@@ -20,19 +20,19 @@ use Rattle.entries.proofs.inside.reach_of.Statement.{statement}
 use Rattle.entries.proofs.inside.reach_of.Tie as tie
 
 abbrev Inv-loop : tie.InvT-loop
-Inv-loop x letters i₀ reach₀ i reach =
+Inv-loop x all i₀ reach₀ i reach =
     (i ≤ i₀)
-    × (reach .up ≡ sumOf (λ c. (extentOf c (listed x) - 1) * up (strideOf c (listed x))) (from 0 letters i₀ i))
-    × (reach .down ≡ sumOf (λ c. (extentOf c (listed x) - 1) * down (strideOf c (listed x))) (from 0 letters i₀ i))
+    × (reach .up ≡ sumOf (λ c. (extentOf c (listed (x .axes)) - 1) * up (strideOf c (listed (x .axes)))) (from 0 (all .letters) i₀ i))
+    × (reach .down ≡ sumOf (λ c. (extentOf c (listed (x .axes)) - 1) * down (strideOf c (listed (x .axes)))) (from 0 (all .letters) i₀ i))
     × (reach .up ≤ (i₀ - i) * 2 ^ 48)
     × (reach .down ≤ (i₀ - i) * 2 ^ 48)
 
 abbrev μ-loop : tie.MeasureT-loop
-μ-loop x letters i₀ reach₀ i reach = i
+μ-loop x all i₀ reach₀ i reach = i
 
 -- the letter of a turn, and what is known of its extent and of its stride's word
 abbrev letter-at : tie.In-loop Inv-loop μ-loop → ℕ
-letter-at c = getD (c .before .before .before .letters-of .result .letters) (c .before .loop .i - 1) 0
+letter-at c = getD (c .before .before .before .args .x .letters .letters) (c .before .loop .i - 1) 0
 
 record Label (x : Axes) (d extent word : ℕ) : Type 0 where
   extent-is : extent ≡ extentOf d (listed x)
@@ -42,11 +42,11 @@ record Label (x : Axes) (d extent word : ℕ) : Type 0 where
   down-lt : down (signed 64 word) < 2 ^ 32
 
 label : (c : tie.After-stride-of Inv-loop μ-loop)
-    → Label (c .before .before .before .before .before .before .args .x) (letter-at (c .before .before)) (c .before .extent-of .result) (c .stride-of .result)
+    → Label (c .before .before .before .before .before .before .args .x .axes) (letter-at (c .before .before .before)) (c .before .extent-of .result) (c .stride-of .result)
 label c =
-    let x = c .before .before .before .before .before .before .args .x in
-    let ok = c .before .before .before .before .before .before .pre in
-    let d = letter-at (c .before .before) in
+    let x = c .before .before .before .before .before .before .args .x .axes in
+    let ok = c .before .before .before .before .before .before .pre .checked in
+    let d = letter-at (c .before .before .before) in
     let w : signed 64 (c .stride-of .result) ≡ strideOf d (listed x) = rw (c .stride-of .ensures) (signed-stride x (ok .few) (ok .strides) d) in
     record {
       extent-is = c .before .extent-of .ensures;
@@ -56,30 +56,27 @@ label c =
       down-lt = rw w (small-down x (ok .few) (ok .strides) d);
     }
 
-letters-of-requires : tie.Need-letters-of-requires Inv-loop μ-loop
-letters-of-requires c κs = c .pre
-
 loop-holds : tie.Need-loop-holds Inv-loop μ-loop
 loop-holds c =
-    let all = c .before .letters-of .result in
+    let all = c .before .args .x .letters in
     let e = from-end 0 (all .letters) (all .count) in
     (omega arith, rw e, rw e, omega arith, omega arith)
 
 sub-i : tie.Need-sub-i Inv-loop μ-loop
 sub-i c = omega arith
 
-array-read-c : tie.Need-array-read-c Inv-loop μ-loop
-array-read-c c = omega (arith, c .before .before .before .letters-of .ensures .few)
+element-copy-out-c : tie.Need-element-copy-out-c Inv-loop μ-loop
+element-copy-out-c c = omega (arith, c .before .before .before .pre .spells .few)
 
 extent-of-requires : tie.Need-extent-of-requires Inv-loop μ-loop
-extent-of-requires c κs = c .before .before .before .before .pre .few
+extent-of-requires c κs = c .before .before .before .before .pre .checked .few
 
 stride-of-requires : tie.Need-stride-of-requires Inv-loop μ-loop
-stride-of-requires c κs = c .before .before .before .before .before .pre
+stride-of-requires c κs = c .before .before .before .before .before .pre .checked
 
 with-requires : tie.Need-with-requires Inv-loop μ-loop
 with-requires c κs =
-    let few = c .before .before .before .before .before .letters-of .ensures .few in
+    let few = c .before .before .before .before .before .before .pre .spells .few in
     (omega (arith, few), omega (arith, few), label c .short, label c .up-lt, label c .down-lt)
 
 loop-less : tie.Need-loop-less Inv-loop μ-loop
@@ -87,8 +84,8 @@ loop-less c = omega arith
 
 loop-again : tie.Need-loop-again Inv-loop μ-loop
 loop-again c =
-    let all = c .before .before .before .before .before .before .letters-of .result in
-    let l = c .before .before .before .before .loop in
+    let all = c .before .before .before .before .before .before .before .args .x .letters in
+    let l = c .before .before .before .before .before .loop in
     let w = label (c .before) in
     let e = c .before .before .extent-of .result in
     let s = signed 64 (c .before .stride-of .result) in
@@ -104,9 +101,9 @@ returns : tie.Need-returns Inv-loop μ-loop
 unfolding span spelled
 returns c =
     let l = c .before .loop in
-    let all = c .before .before .before .letters-of in
+    let all = c .before .before .before .pre .spells in
     let z : l .i ≡ 0 = omega arith in
-    (rw (l .inv .1, z, ← all .ensures .spells), rw (l .inv .2, z, ← all .ensures .spells), omega (arith, all .ensures .few), omega (arith, all .ensures .few))
+    (rw (l .inv .1, z, ← all .spells), rw (l .inv .2, z, ← all .spells), omega (arith, all .few), omega (arith, all .few))
 
 pub reach-of-spec : {M : Type 1} → statement M
 reach-of-spec =
@@ -114,10 +111,9 @@ reach-of-spec =
     (tie.spec
     Inv-loop
     μ-loop
-    letters-of-requires
     loop-holds
     sub-i
-    array-read-c
+    element-copy-out-c
     extent-of-requires
     stride-of-requires
     with-requires

@@ -10,13 +10,13 @@ extent-of-requires : tie.Need-extent-of-requires
 extent-of-requires c κs = search needs
 
 stride-of-requires : tie.Need-stride-of-requires
-stride-of-requires c κs = c .before .before .before .before .before .pre .each A
+stride-of-requires c κs = c .before .before .before .before .before .pre .each A .checked
 
 stride-of-requires-2 : tie.Need-stride-of-requires-2
-stride-of-requires-2 c κs = c .before .before .before .before .before .before .pre .each B
+stride-of-requires-2 c κs = c .before .before .before .before .before .before .pre .each B .checked
 
 stride-of-requires-3 : tie.Need-stride-of-requires-3
-stride-of-requires-3 c κs = c .before .before .before .before .before .before .before .pre .each D
+stride-of-requires-3 c κs = c .before .before .before .before .before .before .before .pre .each D .checked
 
 returns : tie.Need-returns
 returns c =

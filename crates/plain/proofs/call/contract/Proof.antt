@@ -20,9 +20,9 @@ use Rattle.groups.specs.Held.{labelsIn}
 use Rattle.groups.specs.Foldable.{Foldable}
 use Rattle.offsets.specs.Offsets.{wordsIn}
 use Rattle.meaning.specs.Meaning.{result}
-use Rattle.plan.specs.declared.plan.Plan.{Plan}
-use Rattle.plan.specs.Plan.{Planned}
-use Rattle.plan.proofs.GroupsFoldable.{group-foldable, outputs-foldable, fold-foldable}
+use Rattle.plan.specs.declared.plan.OutputPlan.{OutputPlan}
+use Rattle.plan.specs.Plan.{OutputPlanned}
+use Rattle.plan.proofs.GroupsFoldable.{all-foldable, group-foldable, outputs-foldable, fold-foldable}
 use Rattle.direct.specs.declared.walk.Walk.{Walk}
 use Rattle.direct.specs.Walk.{places, over, filled, Walks, Clear}
 use Rattle.direct.proofs.DirectResult.{clear, filled-result}
@@ -31,7 +31,7 @@ use Rattle.plain.proofs.PlainAnswered.{asked, call-refused, call-done}
 use Rattle.plain.proofs.call.contract.Statement.{statement}
 use Rattle.plain.proofs.call.contract.Tie as tie
 
-module _ (c : Contraction) (a b d : List ℕ) (e : refusal (layoutQuestions (tensors c) (lengths (lengthsOf a b d))) ≡ 0) (p : Plan) (q : Planned (tensors c) p) where
+module _ (c : Contraction) (a b d : List ℕ) (e : refusal (layoutQuestions (tensors c) (lengths (lengthsOf a b d))) ≡ 0) (p : OutputPlan) (q : OutputPlanned (tensors c) p) where
   passed : AllPassed (tensors c) (λ o. length (three a b d o))
   passed = subst (AllPassed (tensors c)) (slice-lengths a b d) (accepted-parts (tensors c) (lengths (lengthsOf a b d)) e)
 
@@ -39,17 +39,17 @@ module _ (c : Contraction) (a b d : List ℕ) (e : refusal (layoutQuestions (ten
   output-walks : (p .output .count ≤ axesLimit) × Foldable (labelsIn (p .output))
   output-walks = (q .few-output, rw (q .output) (fold-foldable _ (outputs-foldable (tensors c) _ passed)))
 
-  depth-walks : (p .groups .depth .count ≤ axesLimit) × Foldable (labelsIn (p .groups .depth))
-  depth-walks = (q .few depth, rw (q .groups depth) (fold-foldable _ (group-foldable (tensors c) _ passed depth)))
+  depth-walks : (p .depth .count ≤ axesLimit) × Foldable (labelsIn (p .depth))
+  depth-walks = (q .few-depth, rw (q .depth) (fold-foldable _ (group-foldable (tensors c) _ passed depth)))
 
   -- what `fill` asks, and what it leaves
-  module _ (outer inner : Walk) (ko : Walks (labelsIn (p .output)) outer) (ki : Walks (labelsIn (p .groups .depth)) inner) where
+  module _ (outer inner : Walk) (ko : Walks (labelsIn (p .output)) outer) (ki : Walks (labelsIn (p .depth)) inner) where
     fill-asks : Walks (over outer) outer × Walks (over inner) inner
         × Clear (size (over outer)) (places (p .base) (over outer)) (over inner) a b (length d)
-    fill-asks = (rw (ko .labels) ko, rw (ki .labels) ki, rw (ko .labels, q .output, ki .labels, q .groups depth) (clear c (three a b d) passed (wordsIn (p .base)) (q .bases)))
+    fill-asks = (rw (ko .labels) ko, rw (ki .labels) ki, rw (ko .labels, q .output, ki .labels, q .depth) (clear c (three a b d) passed (wordsIn (p .base)) (q .bases)))
 
     fill-leaves : each (size (over outer)) (λ m. filled (c .alpha) (c .beta) (over inner) a b (places (p .base) (over outer) m)) d ≡ result c (three a b d)
-    fill-leaves = rw (ko .labels, q .output, ki .labels, q .groups depth) (filled-result c (three a b d) passed (wordsIn (p .base)) (q .bases))
+    fill-leaves = rw (ko .labels, q .output, ki .labels, q .depth) (filled-result c (three a b d) passed (wordsIn (p .base)) (q .bases))
 
 -- the answer is 0, and so are the questions
 zero-found : {k m : ℕ} → k ≡ m → k ≡ 0 → m ≡ 0
@@ -61,44 +61,51 @@ first-no-requires c κs = search needs
 returns : tie.Need-returns
 returns c =
     let s = c .before .before .before .before .before in
-    call-refused (s .args .c) (three (now (s .args .a)) (now (s .args .b)) (now (s .args .d))) (asked (s .args .c) (now (s .args .a)) (now (s .args .b)) (now (s .args .d)) (c .before .first-no .ensures)) (omega arith)
+    call-refused (s .args .c) (three (now (s .args .a)) (now (s .args .b)) (now (s .args .d))) (asked (s .args .c) (now (s .args .a)) (now (s .args .b)) (now (s .args .d)) (c .before .first-no .ensures .number)) (omega arith)
 
-plan-of-requires : tie.Need-plan-of-requires
-plan-of-requires c κs = search needs
+output-plan-of-requires : tie.Need-output-plan-of-requires
+output-plan-of-requires c κs =
+    let r = c .before .first-no .ensures in
+    let s = c .before .before .before .before .before in
+    let n = lengthsOf (now (s .args .a)) (now (s .args .b)) (now (s .args .d)) in
+    let z = zero-found (r .number) (omega arith) in
+    (r .lists (omega arith), all-foldable (tensors (s .args .c)) (lengths n) (accepted-parts (tensors (s .args .c)) (lengths n) z))
 
 walk-of-requires : tie.Need-walk-of-requires
 walk-of-requires c κs =
-    let r = c .before .before .before .before .before in
+    let r = c .before in
     let s = r .before .before .before .before .before .before in
-    output-walks (s .args .c) (now (s .args .a)) (now (s .args .b)) (now (s .args .d)) (zero-found (r .before .before .first-no .ensures) (omega arith)) (r .plan-of .result) (r .plan-of .ensures)
+    output-walks (s .args .c) (now (s .args .a)) (now (s .args .b)) (now (s .args .d)) (zero-found (r .before .before .first-no .ensures .number) (omega arith))
+    (r .output-plan-of .result) (r .output-plan-of .ensures)
 
 walk-of-requires-2 : tie.Need-walk-of-requires-2
 walk-of-requires-2 c κs =
-    let r = c .before .before .before .before .before .before in
+    let r = c .before .before in
     let s = r .before .before .before .before .before .before in
-    depth-walks (s .args .c) (now (s .args .a)) (now (s .args .b)) (now (s .args .d)) (zero-found (r .before .before .first-no .ensures) (omega arith)) (r .plan-of .result) (r .plan-of .ensures)
+    depth-walks (s .args .c) (now (s .args .a)) (now (s .args .b)) (now (s .args .d)) (zero-found (r .before .before .first-no .ensures .number) (omega arith))
+    (r .output-plan-of .result) (r .output-plan-of .ensures)
 
 fill-requires : tie.Need-fill-requires
 fill-requires c κs =
-    let r = c .before .before .before .before .before .before .before in
+    let r = c .before .before .before in
     let s = r .before .before .before .before .before .before in
-    fill-asks (s .args .c) (now (s .args .a)) (now (s .args .b)) (now (s .args .d)) (zero-found (r .before .before .first-no .ensures) (omega arith)) (r .plan-of .result) (r .plan-of .ensures)
-    (c .before .walk-of .result) (c .walk-of2 .result) (c .before .walk-of .ensures) (c .walk-of2 .ensures)
+    fill-asks (s .args .c) (now (s .args .a)) (now (s .args .b)) (now (s .args .d)) (zero-found (r .before .before .first-no .ensures .number) (omega arith))
+    (r .output-plan-of .result) (r .output-plan-of .ensures) (c .before .walk-of .result) (c .walk-of2 .result) (c .before .walk-of .ensures) (c .walk-of2 .ensures)
 
 same-length : tie.Need-same-length
 same-length c = search needs
 
 returns-2 : tie.Need-returns-2
 returns-2 c =
-    let r = c .before .before .before .before .before .before .before .before .before .before in
+    let w = c .before .before .before in
+    let r = w .before .before .before in
     let s = r .before .before .before .before .before .before in
-    let n = r .before .before .first-no .ensures in
+    let n = r .before .before .first-no .ensures .number in
     ap (plainCallOf plainDone)
     (c .before .before .fill .ensures
-    ∙ fill-leaves (s .args .c) (now (s .args .a)) (now (s .args .b)) (now (s .args .d)) (zero-found n (omega arith)) (r .plan-of .result) (r .plan-of .ensures)
-    (c .before .before .before .before .walk-of .result) (c .before .before .before .walk-of2 .result) (c .before .before .before .before .walk-of .ensures)
-    (c .before .before .before .walk-of2 .ensures))
+    ∙ fill-leaves (s .args .c) (now (s .args .a)) (now (s .args .b)) (now (s .args .d)) (zero-found n (omega arith)) (r .output-plan-of .result) (r .output-plan-of .ensures)
+    (w .before .walk-of .result) (w .walk-of2 .result) (w .before .walk-of .ensures) (w .walk-of2 .ensures))
     ∙ call-done (s .args .c) (three (now (s .args .a)) (now (s .args .b)) (now (s .args .d))) (asked (s .args .c) (now (s .args .a)) (now (s .args .b)) (now (s .args .d)) n) (omega arith)
 
 pub contract-spec : {M : Type 1} → statement M
-contract-spec = tie.close (tie.spec first-no-requires returns plan-of-requires walk-of-requires walk-of-requires-2 fill-requires same-length returns-2)
+contract-spec = tie.close (tie.spec first-no-requires returns output-plan-of-requires walk-of-requires walk-of-requires-2 fill-requires same-length returns-2)

@@ -51,31 +51,28 @@ cut-test k p = go (leb p k) (leb→le p k) (nleb→lt p k)
         rw (min-eq-left l) (lt-leb (k + 1) k (omega arith))
 
 abbrev Inv-loop : tie.InvT-loop
-Inv-loop x letters i₀ product₀ i product′ = (i ≤ i₀) × (product′ ≡ min (productLimit + 1) (product (λ c. extentOf c (listed x)) (from 0 letters i₀ i)))
+Inv-loop x all i₀ product₀ i product′ = (i ≤ i₀) × (product′ ≡ min (productLimit + 1) (product (λ c. extentOf c (listed (x .axes))) (from 0 (all .letters) i₀ i)))
 
 abbrev μ-loop : tie.MeasureT-loop
-μ-loop x letters i₀ product₀ i product′ = i
-
-letters-of-requires : tie.Need-letters-of-requires Inv-loop μ-loop
-letters-of-requires c κs = c .pre
+μ-loop x all i₀ product₀ i product′ = i
 
 loop-holds : tie.Need-loop-holds Inv-loop μ-loop
 loop-holds c =
-    let all = c .before .letters-of .result in
+    let all = c .before .args .x .letters in
     (omega arith, rw (from-end 0 (all .letters) (all .count)))
 
 sub-i : tie.Need-sub-i Inv-loop μ-loop
 sub-i c = omega arith
 
-array-read-extent-of : tie.Need-array-read-extent-of Inv-loop μ-loop
-array-read-extent-of c = omega (arith, c .before .before .before .letters-of .ensures .few)
+element-copy-out-extent-of : tie.Need-element-copy-out-extent-of Inv-loop μ-loop
+element-copy-out-extent-of c = omega (arith, c .before .before .before .pre .spells .few)
 
 extent-of-requires : tie.Need-extent-of-requires Inv-loop μ-loop
-extent-of-requires c κs = c .before .before .before .before .pre .few
+extent-of-requires c κs = c .before .before .before .before .pre .checked .few
 
 capped-requires : tie.Need-capped-requires Inv-loop μ-loop
 capped-requires c κs =
-    let l = c .before .before .loop in
+    let l = c .before .before .before .loop in
     rw (l .inv .1) (min-le-left (productLimit + 1) _)
 
 loop-less : tie.Need-loop-less Inv-loop μ-loop
@@ -83,10 +80,10 @@ loop-less c = omega arith
 
 loop-again : tie.Need-loop-again Inv-loop μ-loop
 loop-again c =
-    let l = c .before .before .before .loop in
+    let l = c .before .before .before .before .loop in
     let s = c .before .before .before .before .before .before in
-    let all = c .before .before .before .before .before .letters-of .result in
-    let e = extents-bound (listed (s .args .x)) (s .pre .extents) (getD (all .letters) (l .i - 1) 0) in (
+    let all = c .before .before .before .before .before .before .args .x .letters in
+    let e = extents-bound (listed (s .args .x .axes)) (s .pre .checked .extents) (getD (all .letters) (l .i - 1) 0) in (
       omega arith,
       rw (c .capped .ensures, c .before .extent-of .ensures, l .inv .1, from-before 0 (all .letters) (all .count) (l .i) (omega arith) (omega arith))
           (cut-product (productLimit + 1) _ _ (e .0)),
@@ -97,8 +94,8 @@ unfolding pointsFit points spelled
 returns c =
     let l = c .before .loop in
     let z : l .i ≡ 0 = omega arith in
-    let x = c .before .before .before .before .args .x in
-    let spells = c .before .before .before .letters-of .ensures .spells in
+    let x = c .before .before .before .args .x .axes in
+    let spells = c .before .before .before .pre .spells .spells in
     rw (l .inv .1, z, spells) (cut-test productLimit (points (listed x)))
 
 pub points-fit-spec : {M : Type 1} → statement M
@@ -107,10 +104,9 @@ points-fit-spec =
     (tie.spec
     Inv-loop
     μ-loop
-    letters-of-requires
     loop-holds
     sub-i
-    array-read-extent-of
+    element-copy-out-extent-of
     extent-of-requires
     capped-requires
     loop-less

@@ -1,47 +1,109 @@
--- `first_no` meets its contract: the list of questions is the two parts one behind the other, and the second is asked where the first
--- refuses nothing.
+-- `first_no` meets its contract: each tensor answers for itself, and the answers joined are those of the three; where none of questions 1 to 5 fails,
+-- the lists hold the axes, and the later questions are asked.
 -- Assumes nothing.
-use mathlib.Core.Path.{sym, _∙_}
-use mathlib.Core.List.{_++_}
+use mathlib.Core.Path.{_≡_, sym, _∙_}
+use mathlib.Core.List.{List, [], _∷_, _++_}
 use borrow.Author.Needs.{needs}
-use Rattle.contraction.specs.Operands.{tensors, lengths}
-use Rattle.questions.specs.Questions.{tensorQuestions, labelQuestions, entryQuestions, layoutQuestions}
+use Rattle.layout.specs.declared.layout.Layout.{Layout}
+use Rattle.contraction.specs.Operands.{Operand, A, B, D, tensors, lengths}
+use Rattle.questions.specs.Questions.{Lent, refusal, tensorQuestions, lentTensors, labelQuestions, entryQuestions, layoutQuestions}
+use Rattle.questions.specs.Answers.{AnswerOf}
 use Rattle.questions.proofs.Refusal.{refusal-next, refusal-first}
-use Rattle.questions.proofs.Ready.{low-rank, ready-of}
+use Rattle.questions.proofs.Joined.{joined-none}
 use Rattle.questions.proofs.questions.first_no.Statement.{statement}
 use Rattle.questions.proofs.questions.first_no.Tie as tie
 
-each-refusal-requires : tie.Need-each-refusal-requires
-each-refusal-requires c κs = search needs
+of-requires : tie.Need-of-requires
+of-requires c κs = search needs
+
+of-requires-2 : tie.Need-of-requires-2
+of-requires-2 c κs = search needs
+
+of-requires-3 : tie.Need-of-requires-3
+of-requires-3 c κs = search needs
+
+and-requires : tie.Need-and-requires
+and-requires c κs = search needs
+
+and-requires-2 : tie.Need-and-requires-2
+and-requires-2 c κs = search needs
+
+none-requires : tie.Need-none-requires
+none-requires c κs = search needs
+
+-- one tensor of the three
+abbrev own : (s : tie.Start) → Operand → List Lent
+own s o = record { layout = tensors (s .args .c) o; words = lengths (s .args .n) o } ∷ []
+
+joined : (c : tie.After-and2)
+    → let s = c .before .before .before .before .before in
+    AnswerOf (lentTensors (tensors (s .args .c)) (lengths (s .args .n))) (c .and2 .result)
+joined c =
+    let s = c .before .before .before .before .before in
+    let d = c .before .before in
+    c .and2 .ensures (own s A) (own s B ++ own s D) (d .before .before .of .ensures .answer)
+    (c .before .and .ensures (own s B) (own s D) (d .before .of2 .ensures .answer) (d .of3 .ensures .answer))
 
 returns : tie.Need-returns
 unfolding layoutQuestions
 returns c =
-    let t = tensors (c .before .before .args .c) in
-    let n = lengths (c .before .before .args .n) in
-    let e = c .before .each-refusal .ensures in
-    e ∙ sym (refusal-first (tensorQuestions t n) (labelQuestions t n ++ entryQuestions t n) (λ z. c .if1 .taken (e ∙ z)))
+    let k = c .before .before in
+    let s = k .before .before .before .before .before in
+    let t = tensors (s .args .c) in
+    let n = lengths (s .args .n) in
+    let e = joined k .number in
+    record {
+      number = e ∙ sym (refusal-first (tensorQuestions (lentTensors t n)) (labelQuestions t n ++ entryQuestions t n) (λ z. c .before .if1 .taken (e ∙ z)));
+      lists = λ z. absurd (c .before .if1 .taken z);
+    }
 
-of-requires : tie.Need-of-requires
-of-requires c κs =
-    let s = c .before .before in
-    low-rank (s .args .c) (s .args .n) (sym (c .before .each-refusal .ensures) ∙ c .if1 .left)
+of-requires-4 : tie.Need-of-requires-4
+of-requires-4 c κs =
+    let k = c .before in
+    let d = k .before .before in
+    let s = k .before .before .before .before .before in
+    let z = sym (joined k .number) ∙ c .if1 .left in
+    let a = joined-none (own s A) (own s B ++ own s D) z in
+    let b = joined-none (own s B) (own s D) (a .1) in
+    record {
+      each =
+          elim [
+            | A ↦ d .before .before .of .ensures .lists (d .before .before .of .ensures .answer .number ∙ a .0)
+            | B ↦ d .before .of2 .ensures .lists (d .before .of2 .ensures .answer .number ∙ b .0)
+            | D ↦ d .of3 .ensures .lists (d .of3 .ensures .answer .number ∙ b .1)
+          ];
+    }
 
 later-refusal-requires : tie.Need-later-refusal-requires
 later-refusal-requires c κs =
-    let each = c .before in
-    let s = each .before .before in
-    ready-of (s .args .c) (s .args .n) (c .of .result) (sym (each .before .each-refusal .ensures) ∙ each .if1 .left) (c .of .ensures)
+    let k = c .before .before in
+    let z = sym (joined k .number) ∙ c .before .if1 .left in
+    (c .of4 .ensures, joined k .inside z)
 
 returns-2 : tie.Need-returns-2
 unfolding layoutQuestions tensorQuestions
 returns-2 c =
-    let each = c .before .before in
-    let t = tensors (each .before .before .args .c) in
-    let n = lengths (each .before .before .args .n) in
-    c .later-refusal .ensures
-    ∙ sym (refusal-next (tensorQuestions t n) (labelQuestions t n ++ entryQuestions t n) tt (sym (each .before .each-refusal .ensures) ∙ each .if1 .left))
+    let k = c .before .before .before in
+    let s = k .before .before .before .before .before in
+    let t = tensors (s .args .c) in
+    let n = lengths (s .args .n) in
+    let z = sym (joined k .number) ∙ c .before .before .if1 .left in
+    record {
+      number = c .later-refusal .ensures ∙ sym (refusal-next (tensorQuestions (lentTensors t n)) (labelQuestions t n ++ entryQuestions t n) tt z);
+      lists = λ e. c .before .of4 .ensures;
+    }
 
 pub first-no-spec : {M : Type 1} → statement M
 first-no-spec =
-    tie.close (tie.spec each-refusal-requires returns of-requires later-refusal-requires returns-2)
+    tie.close
+    (tie.spec
+    of-requires
+    of-requires-2
+    of-requires-3
+    and-requires
+    and-requires-2
+    none-requires
+    returns
+    of-requires-4
+    later-refusal-requires
+    returns-2)

@@ -1,14 +1,13 @@
--- `later_refusal` meets its contract: the lists hold the axes of the tensors, so that the answers are the questions', and `ask` puts
--- them in the order of the list.
+-- `later_refusal` meets its contract: the lists hold the axes of the tensors, so that the answers are the questions', and `ask` puts them in the order
+-- of the list.
 -- Assumes nothing.
 use mathlib.Core.Path.{ap, _∙_}
-use borrow.Author.Needs.{needs}
 use Rattle.points.specs.LabelQuestions.{extentsAgree, pointsFit}
 use Rattle.entries.specs.EntryQuestions.{apart}
-use Rattle.contraction.specs.Operands.{D}
+use Rattle.contraction.specs.Operands.{D, together}
 use Rattle.questions.specs.Questions.{labelQuestions, entryQuestions}
 use Rattle.questions.proofs.Refusal.{none-left, asked}
-use Rattle.questions.proofs.Ready.{all-listed}
+use borrow.Author.Needs.{needs}
 use Rattle.questions.proofs.questions.later_refusal.Statement.{statement}
 use Rattle.questions.proofs.questions.later_refusal.Tie as tie
 
@@ -18,11 +17,8 @@ extents-agree-requires c κs = search needs
 points-fit-requires : tie.Need-points-fit-requires
 points-fit-requires c κs = search needs
 
-entries-inside-requires : tie.Need-entries-inside-requires
-entries-inside-requires c κs = search needs
-
 all-apart-requires : tie.Need-all-apart-requires
-all-apart-requires c κs = c .before .before .before .before .before .pre .gathered .each D
+all-apart-requires c κs = c .before .before .before .before .pre .0 .gathered .each D
 
 ask-requires : tie.Need-ask-requires
 ask-requires c κs = search needs
@@ -39,13 +35,14 @@ ask-requires-4 c κs = search needs
 returns : tie.Need-returns
 unfolding labelQuestions entryQuestions
 returns c =
-    let s = c .before .before .before .before .before .before .before .before .before .before in
+    let s = c .before .before .before .before .before .before .before .before .before in
     let k = c .before .before .before .before in
-    let l = all-listed (s .args .c) (s .args .x) (s .pre .lists) in
-    let nine = asked 9 (k .all-apart .ensures ∙ ap apart (s .pre .lists .each D)) none-left (c .before .before .before .ask .ensures) in
-    let eight = asked 8 (k .before .entries-inside .ensures) nine (c .before .before .ask2 .ensures) in
-    let seven = asked 7 (k .before .before .points-fit .ensures ∙ ap pointsFit l) eight (c .before .ask3 .ensures) in
-    asked 6 (k .before .before .before .extents-agree .ensures ∙ ap extentsAgree l) seven (c .ask4 .ensures) .number
+    let r = s .pre .0 in
+    let l = r .gathered .all ∙ ap together (λ i o. r .each o i) in
+    let nine = asked 9 (k .all-apart .ensures ∙ ap apart (r .each D)) none-left (c .before .before .before .ask .ensures) in
+    let eight = asked 8 (s .pre .1) nine (c .before .before .ask2 .ensures) in
+    let seven = asked 7 (k .before .points-fit .ensures ∙ ap pointsFit l) eight (c .before .ask3 .ensures) in
+    asked 6 (k .before .before .extents-agree .ensures ∙ ap extentsAgree l) seven (c .ask4 .ensures) .number
 
 pub later-refusal-spec : {M : Type 1} → statement M
 later-refusal-spec =
@@ -53,7 +50,6 @@ later-refusal-spec =
     (tie.spec
     extents-agree-requires
     points-fit-requires
-    entries-inside-requires
     all-apart-requires
     ask-requires
     ask-requires-2

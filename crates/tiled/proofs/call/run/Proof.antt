@@ -29,9 +29,10 @@ use Rattle.tile_blocks.specs.Planned.{GridOf, Clear, readIn, planSetting}
 use Rattle.tile_questions.specs.TileQuestions.{sizeQuestion, roomQuestion, doneQuestion}
 use Rattle.tiling.specs.Work.{packedLast, workAfter}
 use Rattle.tiled.specs.TileCall.{ran, tileRefused, tileCallOf, ranCall, tileCall}
-use Rattle.tiled.proofs.TileAnswered.{asked, accepted, tile-early, tile-late, tile-ran}
-use Rattle.tiled.proofs.Accepted.{none-refused, plan-asks, grid-asks, grid-cut}
-use Rattle.tiled.proofs.Reaches.{clear}
+use Rattle.accept.proofs.AcceptQuestions.{asked, accepted}
+use Rattle.accept.proofs.Accepted.{none-refused, grid-cut}
+use Rattle.accept.proofs.Reaches.{clear}
+use Rattle.tiled.proofs.TileAnswered.{tile-early, tile-late, tile-ran}
 use Rattle.tiled.proofs.Agrees.{walk-agrees, work-agrees}
 use Rattle.tiled.proofs.call.run.Statement.{statement}
 use Rattle.tiled.proofs.call.run.Tie as tie
@@ -40,7 +41,7 @@ tiles-counted : (t n : ℕ) → length (tilesFrom t n) ≡ n
 unfolding tilesFrom
 tiles-counted t n = length-tabulate n (λ k. t + k)
 
--- n is the number that `accept_refusal` answered, k that of `tile_refusal`
+-- n is the number that `Accept::of` answered, k that of `tile_refusal`
 module _ (c : Contraction) (z : Sizes) (a b d : List ℕ) {n : ℕ} (e : n ≡ refusal (layoutQuestions (tensors c) (lengths (lengthsOf a b d)) ++ sizeQuestion z)) (y : n ≡ 0)
     (p : Plan) (q : Planned (tensors c) p) (g : Grid) (o : GridOf p g × (g .sizes ≡ z)) (work : List ℕ) (t : ℕ)
     {k : ℕ} (r : k ≡ refusal (roomQuestion (g .sizes) (length work) ++ doneQuestion (cutIn g) t)) where
@@ -99,47 +100,34 @@ module _ (c : Contraction) (z : Sizes) (a b d : List ℕ) {n : ℕ} (e : n ≡ r
           ew ∙ ap (λ (G : Cut). packedLast G (readIn p a b) t count work) cut ∙ work-agrees c z w ok p q t count below work in
           rw (done, words, packs, m, whole) (tile-ran c z w work t budget ten late x)
 
-accept-refusal-requires : tie.Need-accept-refusal-requires
-accept-refusal-requires c κs = search needs
+of-requires : tie.Need-of-requires
+of-requires c κs = search needs
 
 returns : tie.Need-returns
 returns c =
     let x = c .before .before .before .before .before .before .args in
     tile-early (x .c) (x .z) (three (now (x .a)) (now (x .b)) (now (x .d))) (now (x .work)) (x .done) (x .budget)
-    (asked (x .c) (x .z) (now (x .a)) (now (x .b)) (now (x .d)) (c .before .accept-refusal .ensures)) (c .if1 .taken)
-
-plan-of-requires : tie.Need-plan-of-requires
-plan-of-requires c κs =
-    let x = c .before .before .before .before .before .before .args in
-    plan-asks (x .c) (x .z) (now (x .a)) (now (x .b)) (now (x .d)) (c .before .accept-refusal .ensures) (c .if1 .left)
-
-grid-of-requires : tie.Need-grid-of-requires
-grid-of-requires c κs =
-    let ten = c .before in
-    let x = ten .before .before .before .before .before .before .args in
-    grid-asks (x .c) (x .z) (now (x .a)) (now (x .b)) (now (x .d)) (ten .before .accept-refusal .ensures) (ten .if1 .left) (c .plan-of .result) (c .plan-of .ensures)
+    (asked (x .c) (x .z) (now (x .a)) (now (x .b)) (now (x .d)) (c .before .of .ensures .number)) (c .if1 .taken)
 
 tile-refusal-requires : tie.Need-tile-refusal-requires
-tile-refusal-requires c κs = search needs
+tile-refusal-requires c κs = let ten = c .before in ten .before .of .ensures .grid (ten .if1 .left) .0 .counted
 
 returns-2 : tie.Need-returns-2
 returns-2 c =
-    let grid = c .before .before in
-    let plan = grid .before in
-    let ten = plan .before in
+    let ten = c .before .before .before in
+    let r = ten .before .of in
     let x = ten .before .before .before .before .before .before .args in
-    late-no (x .c) (x .z) (now (x .a)) (now (x .b)) (now (x .d)) (ten .before .accept-refusal .ensures) (ten .if1 .left)
-    (plan .plan-of .result) (plan .plan-of .ensures) (grid .grid-of .result) (grid .grid-of .ensures) (now (x .work)) (x .done)
+    late-no (x .c) (x .z) (now (x .a)) (now (x .b)) (now (x .d)) (r .ensures .number) (ten .if1 .left)
+    (r .result .plan) (r .ensures .plan (ten .if1 .left)) (r .result .grid) (r .ensures .grid (ten .if1 .left)) (now (x .work)) (x .done)
     (c .before .tile-refusal .ensures) (x .budget) (c .if2 .taken)
 
 sub-left : tie.Need-sub-left
 sub-left c =
-    let grid = c .before .before in
-    let plan = grid .before in
-    let ten = plan .before in
+    let ten = c .before .before .before in
+    let r = ten .before .of in
     let x = ten .before .before .before .before .before .before .args in
-    t-below (x .c) (x .z) (now (x .a)) (now (x .b)) (now (x .d)) (ten .before .accept-refusal .ensures) (ten .if1 .left)
-    (plan .plan-of .result) (plan .plan-of .ensures) (grid .grid-of .result) (grid .grid-of .ensures) (now (x .work)) (x .done)
+    t-below (x .c) (x .z) (now (x .a)) (now (x .b)) (now (x .d)) (r .ensures .number) (ten .if1 .left)
+    (r .result .plan) (r .ensures .plan (ten .if1 .left)) (r .result .grid) (r .ensures .grid (ten .if1 .left)) (now (x .work)) (x .done)
     (c .before .tile-refusal .ensures) (c .if2 .left)
 
 smaller-requires : tie.Need-smaller-requires
@@ -149,12 +137,11 @@ run-tiles-requires : tie.Need-run-tiles-requires
 run-tiles-requires c κs =
     let counted = c .before .before in
     let all = counted .before in
-    let grid = all .before .before in
-    let plan = grid .before in
-    let ten = plan .before in
+    let ten = all .before .before .before in
+    let r = ten .before .of in
     let x = ten .before .before .before .before .before .before .args in
-    run-asks (x .c) (x .z) (now (x .a)) (now (x .b)) (now (x .d)) (ten .before .accept-refusal .ensures) (ten .if1 .left)
-    (plan .plan-of .result) (plan .plan-of .ensures) (grid .grid-of .result) (grid .grid-of .ensures) (now (x .work)) (x .done)
+    run-asks (x .c) (x .z) (now (x .a)) (now (x .b)) (now (x .d)) (r .ensures .number) (ten .if1 .left)
+    (r .result .plan) (r .ensures .plan (ten .if1 .left)) (r .result .grid) (r .ensures .grid (ten .if1 .left)) (now (x .work)) (x .done)
     (all .before .tile-refusal .ensures) (all .if2 .left) (x .budget) _ (counted .smaller .ensures)
 
 same-length : tie.Need-same-length
@@ -168,28 +155,15 @@ returns-3 c =
     let tiles = c .before .before .before .before in
     let counted = tiles .before .before .before in
     let all = counted .before in
-    let grid = all .before .before in
-    let plan = grid .before in
-    let ten = plan .before in
+    let ten = all .before .before .before in
+    let r = ten .before .of in
     let x = ten .before .before .before .before .before .before .args in
-    all-ran (x .c) (x .z) (now (x .a)) (now (x .b)) (now (x .d)) (ten .before .accept-refusal .ensures) (ten .if1 .left)
-    (plan .plan-of .result) (plan .plan-of .ensures) (grid .grid-of .result) (grid .grid-of .ensures) (now (x .work)) (x .done)
+    all-ran (x .c) (x .z) (now (x .a)) (now (x .b)) (now (x .d)) (r .ensures .number) (ten .if1 .left)
+    (r .result .plan) (r .ensures .plan (ten .if1 .left)) (r .result .grid) (r .ensures .grid (ten .if1 .left)) (now (x .work)) (x .done)
     (all .before .tile-refusal .ensures) (all .if2 .left) (x .budget) _ (counted .smaller .ensures)
     (tiles .run-tiles .ensures .0) (tiles .run-tiles .ensures .1) (tiles .run-tiles .ensures .2)
 
 pub run-spec : {M : Type 1} → statement M
 run-spec =
     tie.close
-    (tie.spec
-    accept-refusal-requires
-    returns
-    plan-of-requires
-    grid-of-requires
-    tile-refusal-requires
-    returns-2
-    sub-left
-    smaller-requires
-    run-tiles-requires
-    same-length
-    same-length-2
-    returns-3)
+    (tie.spec of-requires returns tile-refusal-requires returns-2 sub-left smaller-requires run-tiles-requires same-length same-length-2 returns-3)

@@ -25,12 +25,13 @@ use Rattle.tile_blocks.specs.ContractionInTiles.{cutOf}
 use Rattle.tile_blocks.specs.Planned.{GridOf}
 use Rattle.tile_questions.specs.TileQuestions.{sizeQuestion, doneQuestion, indexQuestion}
 use Rattle.tiled.specs.TileCall.{is, stateRefused, stateCall}
-use Rattle.tiled.proofs.TileAnswered.{asked, state-early, state-late, state-found}
-use Rattle.tiled.proofs.Accepted.{none-refused, plan-asks, grid-asks, grid-cut}
+use Rattle.accept.proofs.AcceptQuestions.{asked}
+use Rattle.accept.proofs.Accepted.{none-refused, grid-cut}
+use Rattle.tiled.proofs.TileAnswered.{state-early, state-late, state-found}
 use Rattle.tiled.proofs.call.state.Statement.{statement}
 use Rattle.tiled.proofs.call.state.Tie as tie
 
--- n is the number that `accept_refusal` answered; questions 12 and 13 are asked of the grid's cut, which is the contraction's
+-- n is the number that `Accept::of` answered; questions 12 and 13 are asked of the grid's cut, which is the contraction's
 module _ (c : Contraction) (z : Sizes) (a b d : List ℕ) {n : ℕ} (e : n ≡ refusal (layoutQuestions (tensors c) (lengths (lengthsOf a b d)) ++ sizeQuestion z)) (y : n ≡ 0)
     (p : Plan) (q : Planned (tensors c) p) (g : Grid) (o : GridOf p g × (g .sizes ≡ z)) (t h i j : ℕ)
     {k : ℕ} (r : k ≡ refusal (doneQuestion (cutIn g) t ++ indexQuestion (cutIn g) h i j)) where
@@ -56,49 +57,36 @@ module _ (c : Contraction) (z : Sizes) (a b d : List ℕ) {n : ℕ} (e : n ≡ r
   found : {s : State} → k ≡ 0 → s ≡ stateAt (cutIn g) t h i j → is s ≡ stateCall c z (three a b d) t h i j
   found x f = ap is (f ∙ ap (λ (G : Cut). stateAt G t h i j) cut) ∙ state-found c z (three a b d) t h i j (none-refused c z a b d e y) late x
 
-accept-refusal-requires : tie.Need-accept-refusal-requires
-accept-refusal-requires c κs = search needs
+of-requires : tie.Need-of-requires
+of-requires c κs = search needs
 
 returns : tie.Need-returns
 returns c =
     let x = c .before .before .before .before .before .args in
     state-early (x .c) (x .z) (three (now (x .a)) (now (x .b)) (now (x .d))) (x .done) (x .h) (x .i) (x .j)
-    (asked (x .c) (x .z) (now (x .a)) (now (x .b)) (now (x .d)) (c .before .accept-refusal .ensures)) (c .if1 .taken)
-
-plan-of-requires : tie.Need-plan-of-requires
-plan-of-requires c κs =
-    let x = c .before .before .before .before .before .args in
-    plan-asks (x .c) (x .z) (now (x .a)) (now (x .b)) (now (x .d)) (c .before .accept-refusal .ensures) (c .if1 .left)
-
-grid-of-requires : tie.Need-grid-of-requires
-grid-of-requires c κs =
-    let ten = c .before in
-    let x = ten .before .before .before .before .before .args in
-    grid-asks (x .c) (x .z) (now (x .a)) (now (x .b)) (now (x .d)) (ten .before .accept-refusal .ensures) (ten .if1 .left) (c .plan-of .result) (c .plan-of .ensures)
+    (asked (x .c) (x .z) (now (x .a)) (now (x .b)) (now (x .d)) (c .before .of .ensures .number)) (c .if1 .taken)
 
 state-refusal-requires : tie.Need-state-refusal-requires
-state-refusal-requires c κs = search needs
+state-refusal-requires c κs = let ten = c .before in ten .before .of .ensures .grid (ten .if1 .left) .0 .counted
 
 returns-2 : tie.Need-returns-2
 returns-2 c =
-    let grid = c .before .before in
-    let plan = grid .before in
-    let ten = plan .before in
+    let ten = c .before .before .before in
+    let r = ten .before .of in
     let x = ten .before .before .before .before .before .args in
-    late-no (x .c) (x .z) (now (x .a)) (now (x .b)) (now (x .d)) (ten .before .accept-refusal .ensures) (ten .if1 .left)
-    (plan .plan-of .result) (plan .plan-of .ensures) (grid .grid-of .result) (grid .grid-of .ensures) (x .done) (x .h) (x .i) (x .j)
+    late-no (x .c) (x .z) (now (x .a)) (now (x .b)) (now (x .d)) (r .ensures .number) (ten .if1 .left)
+    (r .result .plan) (r .ensures .plan (ten .if1 .left)) (r .result .grid) (r .ensures .grid (ten .if1 .left)) (x .done) (x .h) (x .i) (x .j)
     (c .before .state-refusal .ensures) (c .if2 .taken)
 
 state-requires : tie.Need-state-requires
 state-requires c κs =
-    let grid = c .before .before in
-    let plan = grid .before in
-    let ten = plan .before in
+    let ten = c .before .before .before in
+    let r = ten .before .of in
     let x = ten .before .before .before .before .before .args in
-    let inside = index-inside (x .c) (x .z) (now (x .a)) (now (x .b)) (now (x .d)) (ten .before .accept-refusal .ensures) (ten .if1 .left)
-    (plan .plan-of .result) (plan .plan-of .ensures) (grid .grid-of .result) (grid .grid-of .ensures) (x .done) (x .h) (x .i) (x .j)
+    let inside = index-inside (x .c) (x .z) (now (x .a)) (now (x .b)) (now (x .d)) (r .ensures .number) (ten .if1 .left)
+    (r .result .plan) (r .ensures .plan (ten .if1 .left)) (r .result .grid) (r .ensures .grid (ten .if1 .left)) (x .done) (x .h) (x .i) (x .j)
     (c .before .state-refusal .ensures) (c .if2 .left) in
-    (grid .grid-of .ensures .0 .counted, inside .0, inside .1, inside .2)
+    (r .ensures .grid (ten .if1 .left) .0 .counted, inside .0, inside .1, inside .2)
 
 answer-of-requires : tie.Need-answer-of-requires
 answer-of-requires c κs = search needs
@@ -106,25 +94,13 @@ answer-of-requires c κs = search needs
 returns-3 : tie.Need-returns-3
 returns-3 c =
     let all = c .before .before in
-    let grid = all .before .before in
-    let plan = grid .before in
-    let ten = plan .before in
+    let ten = all .before .before .before in
+    let r = ten .before .of in
     let x = ten .before .before .before .before .before .args in
     c .answer-of .ensures
-    ∙ found (x .c) (x .z) (now (x .a)) (now (x .b)) (now (x .d)) (ten .before .accept-refusal .ensures) (ten .if1 .left)
-    (plan .plan-of .result) (plan .plan-of .ensures) (grid .grid-of .result) (grid .grid-of .ensures) (x .done) (x .h) (x .i) (x .j)
+    ∙ found (x .c) (x .z) (now (x .a)) (now (x .b)) (now (x .d)) (r .ensures .number) (ten .if1 .left)
+    (r .result .plan) (r .ensures .plan (ten .if1 .left)) (r .result .grid) (r .ensures .grid (ten .if1 .left)) (x .done) (x .h) (x .i) (x .j)
     (all .before .state-refusal .ensures) (all .if2 .left) (c .before .state .ensures)
 
 pub state-spec : {M : Type 1} → statement M
-state-spec =
-    tie.close
-    (tie.spec
-    accept-refusal-requires
-    returns
-    plan-of-requires
-    grid-of-requires
-    state-refusal-requires
-    returns-2
-    state-requires
-    answer-of-requires
-    returns-3)
+state-spec = tie.close (tie.spec of-requires returns state-refusal-requires returns-2 state-requires answer-of-requires returns-3)

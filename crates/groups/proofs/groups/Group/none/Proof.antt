@@ -7,7 +7,7 @@ use Rattle.groups.proofs.groups.Group.none.Tie as tie
 
 returns : tie.Need-returns
 unfolding labelsIn
-returns c = (refl, refl)
+returns c = (refl, refl, refl)
 
 pub none-spec : {M : Type 1} → statement M
 none-spec = tie.close (tie.spec returns)

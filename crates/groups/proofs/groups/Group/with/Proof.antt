@@ -4,6 +4,7 @@ use mathlib.Core.Path.{_≡_, refl}
 use native.Mathlib.Omega.{arith}
 use borrow.Author.Needs.{needs}
 use lib.ListN.{length, length-map}
+use Rattle.limits.specs.Limits.{axesLimit}
 use Rattle.groups.proofs.LabelLists.{labels-push}
 use Rattle.groups.proofs.groups.Group.with.Statement.{statement}
 use Rattle.groups.proofs.groups.Group.with.Tie as tie
@@ -20,7 +21,7 @@ add-t5 c = search needs
 returns : tie.Need-returns
 returns c =
     let g = c .before .args .self in
-    let len : length (g .dims) ≡ 24 = simp length-map at (c .before .good .0 .1 .1 .0 .1 .0 .1) in
+    let len : length (g .dims) ≡ axesLimit = simp length-map at (c .before .good .0 .1 .1 .0 .1 .0 .1) in
     (labels-push (g .dims) (g .count) (c .before .args .l) (omega arith), refl)
 
 pub with-spec : {M : Type 1} → statement M

@@ -10,6 +10,7 @@ use lib.ListN.{length, length-map}
 use Rattle.words.specs.Lists.{member}
 use Rattle.words.proofs.Tabulate.{firstOf-push}
 use Rattle.words.proofs.Lists.{member-append}
+use Rattle.limits.specs.Limits.{axesLimit}
 use Rattle.labels.specs.LetterSets.{spelled}
 use Rattle.labels.proofs.Spelling.{same-letter}
 use Rattle.labels.proofs.letter_sets.Letters.with.Statement.{statement}
@@ -28,8 +29,8 @@ returns c =
 array-write-letters : tie.Need-array-write-letters
 array-write-letters c = search needs
 
-add-t10 : tie.Need-add-t10
-add-t10 c = search needs
+add-t11 : tie.Need-add-t11
+add-t11 c = search needs
 
 insert-requires : tie.Need-insert-requires
 insert-requires c κs = search needs
@@ -41,7 +42,7 @@ returns-2 c =
     let pre = c .before .before .before .before .pre in
     let cs = spelled (a .self) in
     let m : member (a .c) cs ≡ false = sym (pre .0 .sets (a .c) (pre .2)) ∙ sym (c .before .before .before .has-letter .ensures) ∙ c .before .before .if1 .left in
-    let len : length (a .self .letters) ≡ 24 = rw length-map at (c .before .before .before .before .good .0 .1 .1 .0 .1 .0 .1) in
+    let len : length (a .self .letters) ≡ axesLimit = rw length-map at (c .before .before .before .before .good .0 .1 .1 .0 .1 .0 .1) in
     rw m (
       record {
         spells = firstOf-push 0 (a .self .letters) (a .self .count) (a .c) (omega arith);
@@ -58,4 +59,4 @@ returns-2 c =
 pub with-spec : {M : Type 1} → statement M
 with-spec =
     tie.close
-    (tie.spec has-letter-requires returns array-write-letters add-t10 insert-requires returns-2)
+    (tie.spec has-letter-requires returns array-write-letters add-t11 insert-requires returns-2)

@@ -1,4 +1,4 @@
--- `Axes::with` meets its contract. The loop's invariant: the list has 24 places, of which the first start + i hold the axes that
+-- `Axes::with` meets its contract. The loop's invariant: the list has all its places, of which the first start + i hold the axes that
 -- were there and the first i of the layout. The measure is what is left of the rank.
 -- Assumes nothing.
 use mathlib.Core.Path.{_≡_, refl, sym, _∙_}
@@ -9,6 +9,7 @@ use native.Mathlib.Omega.{arith}
 use lib.ListN.{length, getD, length-set, length-map}
 use Rattle.words.specs.Lists.{firstOf}
 use Rattle.words.proofs.Tabulate.{firstOf-push, firstOf-suc}
+use Rattle.limits.specs.Limits.{axesLimit}
 use Rattle.layout.specs.Layout.{noAxis, axes}
 use Rattle.layout.specs.Listed.{listed}
 use Rattle.layout.proofs.axes.Axes.with.Statement.{statement}
@@ -16,7 +17,7 @@ use Rattle.layout.proofs.axes.Axes.with.Tie as tie
 
 abbrev Inv-loop : tie.InvT-loop
 Inv-loop start rank from items₀ i₀ items i =
-    (i ≤ rank) × (length items ≡ 24)
+    (i ≤ rank) × (length items ≡ axesLimit)
     × (firstOf (start + i) noAxis items ≡ firstOf start noAxis items₀ ++ firstOf i noAxis from)
 
 abbrev μ-loop : tie.MeasureT-loop
@@ -25,7 +26,7 @@ abbrev μ-loop : tie.MeasureT-loop
 loop-holds : tie.Need-loop-holds Inv-loop μ-loop
 loop-holds c =
     let self = c .before .before .args .self in
-    let len : length (self .items) ≡ 24 = rw length-map at (c .before .before .good .0 .1 .1 .0 .1 .0 .1) in
+    let len : length (self .items) ≡ axesLimit = rw length-map at (c .before .before .good .0 .1 .1 .0 .1 .0 .1) in
     (omega arith, len, rw (add-zero (self .count)) (sym (append-nil (firstOf (self .count) noAxis (self .items)))))
 
 mul-items : tie.Need-mul-items Inv-loop μ-loop

@@ -12,6 +12,7 @@ use denote.Shadow.{shadow}
 use Rattle.words.specs.Words.{wordOf}
 use Rattle.words.specs.Lists.{firstOf}
 use Rattle.words.proofs.Whole.{word-signed}
+use Rattle.limits.specs.Limits.{axesLimit}
 use Rattle.contraction.specs.Operands.{Operand, A, B, D, three}
 use Rattle.groups.specs.declared.groups.Dim.{Dim}
 use Rattle.groups.specs.declared.groups.Group.{Group}
@@ -73,7 +74,7 @@ array-copy-out-l c = search needs
 returns-2 : tie.Need-returns-2
 returns-2 c =
     let s = c .before .before .before .before in
-    let len : length (s .args .g .dims) ≡ 24 = simp length-map at (s .good .0 .1 .1 .0 .1 .0 .1) in
+    let len : length (s .args .g .dims) ≡ axesLimit = simp length-map at (s .good .0 .1 .1 .0 .1 .0 .1) in
     let fits = strides-fit (s .args .g .dims) (s .good .0 .1 .1 .0 .0) (s .good .0 .1 .1 .0 .1 .1) (omega arith) in
     let n : 0 < s .args .g .count = omega arith in
     along (labelsIn (s .args .g)) (getD (s .args .g .dims) 0 noDim) (first (s .args .g) n) (fits .0) (fits .1) (fits .2)

@@ -1,0 +1,3 @@
+pub mod AcceptQuestions
+pub mod Accepted
+pub mod Reaches
