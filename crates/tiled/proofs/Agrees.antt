@@ -2,12 +2,11 @@
 -- A has the same entry at every column count and B at every row count, since each lacks those labels.
 -- Assumes nothing.
 use mathlib.Core.Path.{_≡_, refl, ap}
-use mathlib.Core.List.{List}
+use mathlib.Core.List.{List, [], _∷_}
 use mathlib.Core.Logic.{_≢_}
-use Prim.Native.Nat.{ℕ, zero, suc, _+_, _-_, _*_, _≤_, _<_}
-use native.Mathlib.Omega.{arith}
-use borrow.Author.Tests.{ne-eqb}
+use Prim.Native.Nat.{ℕ, _*_, _<_}
 use lib.ListN.{length, getD}
+use Rattle.words.specs.Sums.{All}
 use Rattle.words.proofs.Tabulate.{tabulate-ext}
 use Rattle.contraction.specs.declared.contraction.Contraction.{Contraction}
 use Rattle.contraction.specs.Operands.{A, B, tensors}
@@ -20,7 +19,7 @@ use Rattle.plan.specs.Plan.{Planned}
 use Rattle.pack.proofs.Packing.{packed-ext}
 use Rattle.tiles.specs.declared.grid.Sizes.{Sizes}
 use Rattle.tiles.specs.Cut.{Cut, width, total, panelOf}
-use Rattle.tiles.specs.Setting.{walk, tilesFrom}
+use Rattle.tiles.specs.Setting.{walk}
 use Rattle.tiles.proofs.SettingsAgree.{Agree, walk-agrees as walk-same}
 use Rattle.tiles.proofs.Cuts.{place-in}
 use Rattle.tiles.proofs.Numbering.{tile-of}
@@ -43,10 +42,11 @@ module _ (G : Cut) {entry entry′ : Side → ℕ → ℕ → ℕ → ℕ}
   unfolding packed
   packed-agrees n b work = rw (tabulate-ext (G .rows * G .depth) (λ x _. block-agrees left n b x), tabulate-ext (G .cols * G .depth) (λ x _. block-agrees right n b x))
 
-  last-agrees : (t n : ℕ) → t + n ≤ total G → (work : List ℕ) → packedLast G entry t n work ≡ packedLast G entry′ t n work
+  last-agrees : (ns : List ℕ) → All (λ n. n < total G) ns → (work : List ℕ) → packedLast G entry ns work ≡ packedLast G entry′ ns work
   unfolding packedLast
-  last-agrees t zero h work = refl
-  last-agrees t (suc n) h work = rw (ne-eqb (suc n) 0 (omega arith)) (packed-agrees (t + suc n - 1) (omega arith) work)
+  last-agrees [] below work = refl
+  last-agrees (n ∷ []) below work = packed-agrees n (below .0) work
+  last-agrees (l ∷ m ∷ ns) below work = last-agrees (m ∷ ns) (below .1) work
 
 module _ (c : Contraction) (z : Sizes) (w : Slices) (ok : AllPassed (tensors c) (λ o. length (w o))) (p : Plan) (q : Planned (tensors c) p) where
   -- what is read are the entries
@@ -79,12 +79,11 @@ module _ (c : Contraction) (z : Sizes) (w : Slices) (ok : AllPassed (tensors c) 
         term = λ h i j k bh bi bj bk. rw (read-is left h i k bh bi bk, any-other left h i j k, read-is right h j k bh bj bk, any-other right h i j k);
       }
 
-  pub walk-agrees : (t n : ℕ) → t + n ≤ total (cutOf c z) → (d : List ℕ)
-      → walk (planSetting p (cutOf c z) (c .alpha) (c .beta) (w A) (w B)) (tilesFrom t n) d ≡ walk (setting c z w) (tilesFrom t n) d
-  unfolding planSetting
-  walk-agrees t n h d = walk-same settings-agree t n h d
+  module _ (ns : List ℕ) (below : All (λ n. n < total (cutOf c z)) ns) where
+    pub walk-agrees : (d : List ℕ) → walk (planSetting p (cutOf c z) (c .alpha) (c .beta) (w A) (w B)) ns d ≡ walk (setting c z w) ns d
+    unfolding planSetting
+    walk-agrees d = walk-same settings-agree ns below d
 
-  pub work-agrees : (t n : ℕ) → t + n ≤ total (cutOf c z) → (work : List ℕ)
-      → packedLast (cutOf c z) (readIn p (w A) (w B)) t n work ≡ workAfter c z w t n work
-  unfolding workAfter
-  work-agrees t n h work = last-agrees (cutOf c z) read-is t n h work
+    pub work-agrees : (work : List ℕ) → packedLast (cutOf c z) (readIn p (w A) (w B)) ns work ≡ workAfter c z w ns work
+    unfolding workAfter
+    work-agrees work = last-agrees (cutOf c z) read-is ns below work

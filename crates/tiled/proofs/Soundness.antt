@@ -26,10 +26,9 @@ use Rattle.meaning.proofs.Onto.{parts-onto}
 use Rattle.meaning.proofs.Result.{parts-apart, length-result, term, value-counts}
 use Rattle.meaning.proofs.Values.{result-in-range, result-elsewhere}
 use Rattle.tiles.specs.declared.grid.Sizes.{Sizes}
-use Rattle.tiles.specs.Cut.{Cut, total}
+use Rattle.tiles.specs.Cut.{Cut, InSizes, total}
 use Rattle.tiles.specs.Setting.{settingBy, closed}
-use Rattle.tiles.proofs.Sound.{Sound, direct}
-use Rattle.tiles.proofs.Closed.{shows-render, closed-total}
+use Rattle.tiles.proofs.Closed.{Sound, direct, shows-render, closed-total}
 use Rattle.tile_blocks.specs.ContractionInTiles.{groupCounts, cutOf, addressAt, entryAt, setting}
 use Rattle.tile_questions.specs.TileQuestions.{sizesFit}
 use Rattle.tile_questions.proofs.TileSizes.{sizes-limited}
@@ -60,12 +59,12 @@ module _ (c : Contraction) where
   parts-cover h i j x e = out-groups (shapeIn c) .covers (groupCounts h i j 0) x ∙ e
 
 module _ (c : Contraction) (z : Sizes) (w : Slices) (ok : AllPassed (tensors c) (λ o. length (w o))) (fit : sizesFit z ≡ true) where
-  open Cut (cutOf c z) using (H, M, N, K)
+  open Cut (cutOf c z) using (K)
 
-  module _ (h i j : ℕ) (bh : h < H) (bi : i < M) (bj : j < N) where
+  module _ (h i j : ℕ) (ix : InSizes (cutOf c z) h i j) where
     parts-below : Below (shapeIn c) (parts c h i j)
     unfolding group parts
-    parts-below = (bh, (bi, (bj, tt)))
+    parts-below = (ix .0, (ix .1, (ix .2, tt)))
 
     at-in-range : InRange (axes (tensors c D)) (at c h i j)
     unfolding at
@@ -74,12 +73,12 @@ module _ (c : Contraction) (z : Sizes) (w : Slices) (ok : AllPassed (tensors c) 
     inside : addressAt c h i j < length (w D)
     inside = rw (address-at c h i j) (inside-every (tensors c D) (length (w D)) (rw (ok .within D) tt) (at c h i j) at-in-range .1)
 
-  apart : (h i j h′ i′ j′ : ℕ) → h < H → i < M → j < N → h′ < H → i′ < M → j′ < N
+  apart : (h i j h′ i′ j′ : ℕ) → InSizes (cutOf c z) h i j → InSizes (cutOf c z) h′ i′ j′
       → addressAt c h i j ≡ addressAt c h′ i′ j′ → (h ≡ h′) × (i ≡ i′) × (j ≡ j′)
   unfolding at parts
-  apart h i j h′ i′ j′ bh bi bj bh′ bi′ bj′ e =
+  apart h i j h′ i′ j′ ix ix′ e =
       let r = parts-apart (tensors c) (length (w D)) (rw (ok .agree) tt) (rw (ok .within D) tt) (rw (ok .distinct) tt)
-      (inGroup (shapeIn c)) outGroups (out-groups (shapeIn c)) (groupCounts h i j 0) (groupCounts h′ i′ j′ 0) (parts-below h i j bh bi bj) (parts-below h′ i′ j′ bh′ bi′ bj′)
+      (inGroup (shapeIn c)) outGroups (out-groups (shapeIn c)) (groupCounts h i j 0) (groupCounts h′ i′ j′ 0) (parts-below h i j ix) (parts-below h′ i′ j′ ix′)
       (sym (address-at c h i j) ∙ e ∙ address-at c h′ i′ j′) in
       (r .0, r .1 .0, r .1 .1 .0)
 
@@ -87,26 +86,26 @@ module _ (c : Contraction) (z : Sizes) (w : Slices) (ok : AllPassed (tensors c) 
   unfolding setting
   sound =
       let sizes = sizes-limited z fit in
-      record { rows-pos = sizes .rows .0; cols-pos = sizes .cols .0; depth-pos = sizes .depth .0; inside = inside; apart = apart }
+      record { rows-pos = sizes .rows .0; cols-pos = sizes .cols .0; depth-pos = sizes .depth .0; places = record { inside = inside; apart = apart } }
 
   -- the plain result has the direct sum at each output index
-  result-hit : (h i j : ℕ) → h < H → i < M → j < N
+  result-hit : (h i j : ℕ) → InSizes (cutOf c z) h i j
       → getD (result c w) (addressAt c h i j) 0 ≡ direct (setting c z w) h i j (getD (w D) (addressAt c h i j) 0)
   unfolding setting direct entryAt entry index group at parts
-  result-hit h i j bh bi bj =
+  result-hit h i j ix =
       rw (address-at c h i j)
-      (result-in-range c w ok (at c h i j) (at-in-range h i j bh bi bj)
+      (result-in-range c w ok (at c h i j) (at-in-range h i j ix)
       ∙ value-counts c w (at c h i j)
       ∙ ap (word 32) (add-comm (c .alpha * sumTo K (term c w (at c h i j))) (c .beta * entry c w D (at c h i j))))
 
   -- and its old words elsewhere
-  result-miss : (x : ℕ) → ((h i j : ℕ) → h < H → i < M → j < N → addressAt c h i j ≢ x) → getD (result c w) x 0 ≡ getD (w D) x 0
+  result-miss : (x : ℕ) → ((h i j : ℕ) → InSizes (cutOf c z) h i j → addressAt c h i j ≢ x) → getD (result c w) x 0 ≡ getD (w D) x 0
   unfolding group at parts
   result-miss x off =
       result-elsewhere c w ok x
       (λ ρ r e.
       let n = parts-onto (tensors c) (rw (ok .agree) tt) D (inGroup (shapeIn c)) outGroups (out-groups (shapeIn c)) ρ r in
-      off (n .0 batch) (n .0 row) (n .0 column) (n .1 .0) (n .1 .1 .0) (n .1 .1 .1 .0) (address-at c (n .0 batch) (n .0 row) (n .0 column) ∙ n .2 ∙ e))
+      off (n .0 batch) (n .0 row) (n .0 column) (n .1 .0, n .1 .1 .0, n .1 .1 .1 .0) (address-at c (n .0 batch) (n .0 row) (n .0 column) ∙ n .2 ∙ e))
 
   pub closed-result : closed (setting c z w) (total (cutOf c z)) (w D) ≡ result c w
   unfolding setting
@@ -114,6 +113,6 @@ module _ (c : Contraction) (z : Sizes) (w : Slices) (ok : AllPassed (tensors c) 
       closed-total (setting c z w) (w D) sound
       ∙ sym (shows-render (setting c z w) (w D) sound (direct (setting c z w)) (record {
         len = length-result c w;
-        hit = λ q b p. result-hit (q .0) (q .1) (q .2) (b .0) (b .1) (b .2);
-        miss = λ x off. result-miss x (λ h i j bh bi bj. off (h, i, j) (bh, bi, bj) tt);
+        hit = λ q b p. result-hit (q .0) (q .1) (q .2) b;
+        miss = λ x off. result-miss x (λ h i j b. off (h, i, j) b tt);
       }))

@@ -19,4 +19,5 @@ work-cases =
     record {
       edge = refl;
       none-run = refl;
+      last-listed = refl;
     }
