@@ -56,7 +56,7 @@ module _ (S : Setting) where
   unfoldable pub addPanel : ℕ → ℕ → ℕ → ℕ → ℕ → ℕ
   addPanel p h i j w = word 32 (cond (eqb p 0) (start h i j w) w + alpha * panelSum h i j p)
 
-  -- that is put in the word's place
+  -- and it takes the word's place
   abbrev pub visit : ℕ → ℕ → ℕ → ℕ → List ℕ → List ℕ
   visit p h i j = put (addPanel p h i j) (addr h i j)
 

@@ -48,17 +48,18 @@ unfoldable pub after : {X : Type 0} → (ℕ → X → X) → List ℕ → X →
 after f [] x = x
 after f (p ∷ ps) x = after f ps (f p x)
 
--- ---- cells: what a state holds at the places below its size, each read and written by itself
+-- ---- cells: what a state holds at its places, each read and written by itself
 
 pub record Cells (S X : Type 0) : Type 0 where
-  pub size : S → ℕ
-  pub read : ℕ → S → X
-  pub write : ℕ → X → S → S
+  pub size : S → ℕ  -- how many places there are
+  pub read : ℕ → S → X  -- the cell at a place
+  pub write : ℕ → X → S → S  -- the state with another cell there
+  -- what is written is read again; the other cells and the size stay
   pub same : (y : ℕ) (x : X) (s : S) → y < size s → read y (write y x s) ≡ x
   pub other : (y z : ℕ) (x : X) (s : S) → y ≢ z → read z (write y x s) ≡ read z s
   pub kept : (y : ℕ) (x : X) (s : S) → size (write y x s) ≡ size s
 
--- each output index h i j has a place of its own, addr h i j, below the size
+-- each output index h i j has a place of its own, addr h i j
 pub record OwnPlaces (G : Cut) (addr : ℕ → ℕ → ℕ → ℕ) (size : ℕ) : Type 0 where
   pub inside : (h i j : ℕ) → InSizes G h i j → addr h i j < size
   pub apart : (h i j h′ i′ j′ : ℕ) → InSizes G h i j → InSizes G h′ i′ j′ → addr h i j ≡ addr h′ i′ j′ → (h ≡ h′) × (i ≡ i′) × (j ≡ j′)
