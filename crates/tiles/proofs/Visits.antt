@@ -43,32 +43,33 @@ module _ {S S′ : Type 0} (R : S → S′ → Type 0) (G : Cut) (visit : ℕ �
   walk-relates [] keeps s s′ r = r
   walk-relates (n ∷ ns) keeps s s′ r = walk-relates ns (keeps .1) (visitTile G visit n s) (visitTile G visit′ n s′) (tile-relates n (keeps .0) s s′ r)
 
-  -- visits in range that keep R are enough where the tiles are those of the cut, and any visits for any numbers
+  -- the tiles of the cut visit only output indices in range
   pub tiles-relate : ((p h i j : ℕ) → InSizes G h i j → Keeps p h i j) → (ns : List ℕ) → All (λ n. n < total G) ns
       → (s : S) (s′ : S′) → R s s′ → R (walkTiles G visit ns s) (walkTiles G visit′ ns s′)
   tiles-relate keeps ns below =
       walk-relates ns (all-imp (λ n l a b x y. keeps (panelOf G n) (batchOf G n) (rowOf G n * rows + a) (columnOf G n * cols + b)
       (tile-of G n l .batch, place-in M rows (rowOf G n) x, place-in N cols (columnOf G n) y)) ns below)
 
+  -- any numbers, at any counts
   pub numbers-relate : ((p h i j : ℕ) → Keeps p h i j) → (ns : List ℕ) → (s : S) (s′ : S′) → R s s′ → R (walkTiles G visit ns s) (walkTiles G visit′ ns s′)
   numbers-relate keeps ns =
       walk-relates ns (all-of (λ n a b x y. keeps (panelOf G n) (batchOf G n) (rowOf G n * rows + a) (columnOf G n * cols + b)) ns)
 
--- ---- one state
+-- ---- one state: the other is nothing
 
 module _ {S : Type 0} (P : S → Type 0) (G : Cut) (visit : ℕ → ℕ → ℕ → ℕ → S → S) where
-  abbrev both : S → Unit {0} → Type 0
-  both s u = P s
+  abbrev first : S → Unit {0} → Type 0
+  first s u = P s
 
   abbrev idle : ℕ → ℕ → ℕ → ℕ → Unit {0} → Unit {0}
   idle p h i j u = u
 
   pub tiles-keep : ((p h i j : ℕ) → InSizes G h i j → (s : S) → P s → P (visit p h i j s)) → (ns : List ℕ) → All (λ n. n < total G) ns
       → (s : S) → P s → P (walkTiles G visit ns s)
-  tiles-keep keeps ns below s = tiles-relate both G visit idle (λ p h i j k s u. keeps p h i j k s) ns below s tt
+  tiles-keep keeps ns below s = tiles-relate first G visit idle (λ p h i j k s u. keeps p h i j k s) ns below s tt
 
   pub numbers-keep : ((p h i j : ℕ) (s : S) → P s → P (visit p h i j s)) → (ns : List ℕ) (s : S) → P s → P (walkTiles G visit ns s)
-  numbers-keep keeps ns s = numbers-relate both G visit idle (λ p h i j s u. keeps p h i j s) ns s tt
+  numbers-keep keeps ns s = numbers-relate first G visit idle (λ p h i j s u. keeps p h i j s) ns s tt
 
 -- ---- tiles may be run in parts
 
