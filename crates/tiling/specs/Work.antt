@@ -9,8 +9,8 @@ use Rattle.meaning.specs.Meaning.{Slices}
 use Rattle.pack.specs.Packed.{packedWord}
 use Rattle.tiles.specs.declared.grid.Sizes.{Sizes}
 use Rattle.tiles.specs.Cut.{Cut, width, batchOf, panelOf}
-use Rattle.tile_blocks.specs.Side.{Side, left, right, both, tensorOn, sizeOn, tileOn, blockOn}
-use Rattle.tile_blocks.specs.ContractionInTiles.{cutOf, entryAt}
+use Rattle.tile_blocks.specs.Side.{Side, left, right, sizeOn, tileOn, blockOn}
+use Rattle.tile_blocks.specs.ContractionInTiles.{cutOf, entryOn}
 
 module _ (G : Cut) (entry : Side → ℕ → ℕ → ℕ → ℕ) where
   open Cut G using (K, rows, cols, depth)
@@ -31,11 +31,6 @@ module _ (G : Cut) (entry : Side → ℕ → ℕ → ℕ → ℕ) where
   packedLast [] work = work
   packedLast (n ∷ []) work = packed n work
   packedLast (n ∷ m ∷ ns) work = packedLast (m ∷ ns) work
-
--- a side's entry at a batch count, a count m of its group and a depth count; A lacks the column labels and B the row labels, so that any count of those, here
--- 0, gives the same
-unfoldable pub entryOn : Contraction → Slices → Side → ℕ → ℕ → ℕ → ℕ
-entryOn c w s h m k = entryAt c w (tensorOn s) h (both m 0 s) (both 0 m s) k
 
 -- the work slice after the tiles of a list
 unfoldable pub workAfter : Contraction → Sizes → Slices → List ℕ → List ℕ → List ℕ
