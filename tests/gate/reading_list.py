@@ -25,6 +25,7 @@ CALLS = [
 STATEMENTS = [
     "crates/meaning/specs/Demand2.antt",
     "crates/plain/specs/PlainDemand.antt",
+    "crates/tiles/specs/TileWalk.antt",
     "crates/tiled/specs/Demand3.antt",
     "crates/states/specs/StateLetters.antt",
     "crates/edges/specs/Pinned.antt",

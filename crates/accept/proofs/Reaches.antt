@@ -1,14 +1,15 @@
 -- The address words that the tile code forms from a plan are the addresses of entries, each inside its slice. To reduce a part of a sum of words first
--- changes nothing, folding keeps offsets and sizes, and the group that a place leaves out is at its count 0, whose offset is 0.
+-- changes nothing, folding keeps offsets and sizes, and a place adds the counts of just the groups that its tensor has.
 -- Assumes nothing.
-use mathlib.Core.Path.{_≡_, refl, sym, ap, _∙_}
+use mathlib.Core.Path.{_≡_, sym, ap, _∙_}
 use mathlib.Core.Bool.{true}
 use mathlib.Core.List.{List, [], _∷_}
 use Prim.Native.Nat.{ℕ, _+_, _*_, _≤_, _<_, max}
-use native.Mathlib.Nat.{zero-mod, zero-div}
 use native.Mathlib.Omega.{arith}
 use borrow.Author.Tests.{leb-true}
+use Rattle.words.specs.Sums.{All, sumOf}
 use Rattle.words.specs.Words.{word, wordOf}
+use Rattle.words.proofs.Sums.{sumOf-ext}
 use Rattle.words.proofs.Modular.{word-add-left, word-add-right}
 use Rattle.limits.specs.Limits.{productLimit}
 use Rattle.layout.specs.Layout.{address}
@@ -18,11 +19,13 @@ use Rattle.contraction.specs.Operands.{Operand, A, B, D, tensors, together}
 use Rattle.questions.proofs.Ready.{AllPassed}
 use Rattle.groups.specs.Groups.{Label, Group, batch, row, column, depth, group, size}
 use Rattle.groups.specs.Held.{labelsIn}
-use Rattle.offsets.specs.Counts.{offset, offsetIn}
+use Rattle.offsets.specs.Counts.{offsetIn}
 use Rattle.offsets.specs.Offsets.{wordsIn}
 use Rattle.folding.proofs.FoldKeeps.{fold-size}
 use Rattle.meaning.specs.Index.{index}
 use Rattle.meaning.specs.Meaning.{shapeIn}
+use Rattle.meaning.proofs.IndexParts.{atParts}
+use Rattle.meaning.proofs.OwnGroups.{groupCounts, groupsOf, groupsAt}
 use Rattle.plan.specs.declared.plan.Plan.{Plan}
 use Rattle.plan.specs.Plan.{Planned, planned}
 use Rattle.plan.proofs.GroupsFoldable.{group-foldable, fold-foldable}
@@ -30,15 +33,10 @@ use Rattle.plan.proofs.GroupSizes.{group-sizes, group-size-pos}
 use Rattle.plan.proofs.Reached.{index-inside, reached-index}
 use Rattle.tiles.specs.declared.grid.Sizes.{Sizes}
 use Rattle.tile_blocks.specs.Side.{Side, left, right, both, tensorOn, groupOn, sizeOn}
-use Rattle.tile_blocks.specs.ContractionInTiles.{groupCounts, cutOf, addressAt}
+use Rattle.tile_blocks.specs.ContractionInTiles.{cutOf, addressAt}
 use Rattle.tile_blocks.specs.Planned.{placeIn, placeD, planCut, Clear, PlanFits}
 use Rattle.tile_questions.specs.TileQuestions.{sizesFit}
 use Rattle.tile_questions.proofs.TileSizes.{sizes-limited}
-
--- count 0 moves nowhere
-offset-zero : (w : Label → ℕ) (g : List Label) → offset w g 0 ≡ 0
-offset-zero w [] = refl
-offset-zero w (l ∷ g) = rw (zero-mod (l .extent), zero-div (l .extent), offset-zero w g) (omega arith)
 
 -- a sum of four words, reduced at every step
 steps : (x a b d : ℕ) → word 64 (word 64 (word 64 (x + word 64 a) + word 64 b) + word 64 d) ≡ word 64 (x + a + b + d)
@@ -57,16 +55,13 @@ module _ (c : Contraction) (n : Operand → ℕ) (ok : AllPassed (tensors c) n) 
   pub plan-cut : (z : Sizes) → planCut p z ≡ cutOf c z
   plan-cut z = rw (plan-size batch, plan-size row, plan-size column, plan-size depth)
 
-  size-pos : (g : Group) → 0 < size (group (shapeIn c) g)
-  size-pos = group-size-pos (tensors c) n ok
-
   points-fit : max 1 (size (labelsIn (planned p batch))) * max 1 (size (labelsIn (planned p row))) * max 1 (size (labelsIn (planned p column)))
       * max 1 (size (labelsIn (planned p depth))) ≤ productLimit
   unfolding pointsFit
   points-fit = rw (same batch, same row, same column, same depth, group-sizes (shapeIn c)) (leb-true (points (together (shapeIn c))) productLimit (ok .fit))
     where
       same : (g : Group) → max 1 (size (labelsIn (planned p g))) ≡ size (group (shapeIn c) g)
-      same g = omega (arith, plan-size g, size-pos g)
+      same g = omega (arith, plan-size g, group-size-pos (tensors c) n ok g)
 
   pub plan-fits : (z : Sizes) → sizesFit z ≡ true → PlanFits p z
   plan-fits z f =
@@ -88,45 +83,31 @@ module _ (c : Contraction) (n : Operand → ℕ) (ok : AllPassed (tensors c) n) 
 
   -- ---- places
 
-  -- an address word is that of a tensor's entry at four counts, and inside its slice
-  pub record Entry (o : Operand) (x : ℕ) (at : Group → ℕ) : Type 0 where
-    pub is : x ≡ address (tensors c o) (index (shapeIn c) at)
+  -- an address word is that of a tensor's entry at an index, and inside its slice
+  pub record Entry (o : Operand) (x : ℕ) (ρ : ℕ → ℕ) : Type 0 where
+    pub is : x ≡ address (tensors c o) ρ
     pub inside : x < n o
 
-  module _ (h i j k : ℕ) (bh : h < size (group (shapeIn c) batch)) (bi : i < size (group (shapeIn c) row)) (bj : j < size (group (shapeIn c) column))
-      (bk : k < size (group (shapeIn c) depth)) where
-    below : (g : Group) → groupCounts h i j k g < size (group (shapeIn c) g)
-    below batch = bh
-    below row = bi
-    below column = bj
-    below depth = bk
-
-    -- the base and the offsets of four counts, added in any order
-    reached : (o : Operand) {x y : ℕ} → y ≡ word 64 x
-        → x ≡ wordsIn (p .base) o + offsetIn (wordOf 64) o (labelsIn (planned p batch)) h + offsetIn (wordOf 64) o (labelsIn (planned p row)) i
-        + offsetIn (wordOf 64) o (labelsIn (planned p column)) j + offsetIn (wordOf 64) o (labelsIn (planned p depth)) k
-        → Entry o y (groupCounts h i j k)
-    unfolding group
-    reached o {x} {y} w e =
-        let is : y ≡ address (tensors c o) (index (shapeIn c) (groupCounts h i j k)) =
-        w ∙ ap (word 64) (omega (arith, rw (q .bases o, q .groups batch, q .groups row, q .groups column, q .groups depth) at e))
-        ∙ reached-index (tensors c) n ok (groupCounts h i j k) below o in
-        record { is = is; inside = rw is (index-inside (tensors c) n ok (groupCounts h i j k) below o .1) }
-
-  -- the offset of count 0 of a group in a tensor
-  zero-offset : (o : Operand) (g : Group) → offsetIn (wordOf 64) o (labelsIn (planned p g)) 0 ≡ 0
-  zero-offset o g = offset-zero _ (labelsIn (planned p g))
+  -- the base and the offsets of counts of a tensor's groups, added in any order
+  reached : (o : Operand) (m : Group → ℕ) → All (λ g. m g < size (group (shapeIn c) g)) (groupsOf o) → {x y : ℕ} → y ≡ word 64 x
+      → x ≡ wordsIn (p .base) o + sumOf (λ g. offsetIn (wordOf 64) o (labelsIn (planned p g)) (m g)) (groupsOf o)
+      → Entry o y (atParts (shapeIn c) (groupsAt (shapeIn c) m (groupsOf o)))
+  reached o m below {x} {y} w e =
+      let folded = sumOf-ext (λ g. ap (λ (l : List Label). offsetIn (wordOf 64) o l (m g)) (q .groups g)) (groupsOf o) in
+      let is : y ≡ address (tensors c o) (atParts (shapeIn c) (groupsAt (shapeIn c) m (groupsOf o))) =
+      w ∙ ap (word 64) (rw (q .bases o, folded) at e) ∙ reached-index (tensors c) n ok o m below in
+      record { is = is; inside = rw is (index-inside (tensors c) n ok o m below .1) }
 
   pub side-entry : (s : Side) (h m k : ℕ) → h < size (group (shapeIn c) batch) → m < size (group (shapeIn c) (groupOn s)) → k < size (group (shapeIn c) depth)
-      → Entry (tensorOn s) (placeIn p s h m k) (groupCounts h (both m 0 s) (both 0 m s) k)
-  unfolding placeIn
-  side-entry left h m k bh bm bk = reached h m 0 k bh bm (size-pos column) bk A (steps-whole _ _ _ _) (omega (arith, zero-offset A column))
-  side-entry right h m k bh bm bk = reached h 0 m k bh (size-pos row) bm bk B (steps-whole _ _ _ _) (omega (arith, zero-offset B row))
+      → Entry (tensorOn s) (placeIn p s h m k) (index (shapeIn c) ((depth, k) ∷ (batch, h) ∷ (groupOn s, m) ∷ []))
+  unfolding placeIn index group
+  side-entry left h m k bh bm bk = reached A (groupCounts h m m k) (bk, (bh, (bm, tt))) (steps-whole _ _ _ _) (omega arith)
+  side-entry right h m k bh bm bk = reached B (groupCounts h m m k) (bk, (bh, (bm, tt))) (steps-whole _ _ _ _) (omega arith)
 
   output-entry : (h i j : ℕ) → h < size (group (shapeIn c) batch) → i < size (group (shapeIn c) row) → j < size (group (shapeIn c) column)
-      → Entry D (placeD p h i j) (groupCounts h i j 0)
-  unfolding placeD
-  output-entry h i j bh bi bj = reached h i j 0 bh bi bj (size-pos depth) D (steps _ _ _ _) (omega (arith, zero-offset D depth))
+      → Entry D (placeD p h i j) (index (shapeIn c) ((batch, h) ∷ (row, i) ∷ (column, j) ∷ []))
+  unfolding placeD index group
+  output-entry h i j bh bi bj = reached D (groupCounts h i j 0) (bh, (bi, (bj, tt))) (steps _ _ _ _) (omega arith)
 
   pub reaches-d : (h i j : ℕ) → h < size (group (shapeIn c) batch) → i < size (group (shapeIn c) row) → j < size (group (shapeIn c) column)
       → placeD p h i j ≡ addressAt c h i j

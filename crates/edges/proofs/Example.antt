@@ -21,8 +21,9 @@ use Rattle.meaning.specs.Meaning.{entry}
 use Rattle.tiles.specs.declared.grid.Sizes.{Sizes}
 use Rattle.tiles.specs.Cut.{blocks, width, MB, NB, KB, total, tileNumber, batchOf, columnOf, panelOf, rowOf}
 use Rattle.tiles.specs.Progress.{old, part, final, done, doneCount, stateAt}
-use Rattle.tiles.specs.Setting.{Setting, panelSum, doneSum, wordAt, render, closed, addPanel, tileAt, tileStep, walk, tilesFrom}
-use Rattle.tile_blocks.specs.ContractionInTiles.{addressAt, entryAt, setting}
+use Rattle.tiles.specs.TileWalk.{tileAt, visitTile, walkTiles}
+use Rattle.tiles.specs.Setting.{Setting, panelSum, doneSum, wordAt, render, closed, addPanel, tilesFrom}
+use Rattle.tile_blocks.specs.ContractionInTiles.{addressAt, entryOn, setting}
 use Rattle.tile_questions.specs.TileQuestions.{sizesFit, sizeQuestion, roomQuestion, doneQuestion, indexQuestion, acceptQuestions, Accepted, tileQuestions, stateQuestions}
 use Rattle.tiled.specs.TileCall.{ran, tileRefused, is, stateRefused, ranCall, tileCall, stateCall}
 use Rattle.tiled.specs.Demand3.{Call, tiles, state, tiled, found, run}
@@ -57,7 +58,7 @@ S = setting job sizes (three a b d)
 
 -- D's words after 3 tiles and after all 8
 pub worked : (closed S 3 d ≡ 211 ∷ 402 ∷ 300 ∷ 400 ∷ []) × (closed S 8 d ≡ 211 ∷ 414 ∷ 608 ∷ 810 ∷ [])
-unfolding sumTo each put axes axesOf layoutOf address labels together groupOf inGroup group index entry blocks MB NB KB tileNumber done panelSum doneSum wordAt render closed addressAt entryAt setting
+unfolding sumTo each put axes axesOf layoutOf address labels together groupOf inGroup group index entry blocks MB NB KB tileNumber done panelSum doneSum wordAt render closed addressAt entryOn setting
 worked = (refl, refl)
 
 pub job-accepted : Accepted job sizes (three a b d)
@@ -80,5 +81,5 @@ pub calls : (run job sizes a b part-way 0 d
       words = 211 ∷ 402 ∷ 300 ∷ 400 ∷ [];
     }) × (run job sizes a b to-the-end 0 d
     ≡ record { said = tiled (ran 3 false) ∷ tiled (ran 8 true) ∷ tiled (ran 8 true) ∷ found (is final) ∷ []; t = 8; words = 211 ∷ 414 ∷ 608 ∷ 810 ∷ [] })
-unfolding sumTo each put axes axesOf layoutOf address labels together groupOf inGroup group index entry tensorQuestions labelQuestions entryQuestions layoutQuestions rankFits countsMatch lettersValid extentsValid stridesValid sizesValid extentsAgree points pointsFit span inside below apart blocks width MB NB KB total tileNumber batchOf columnOf panelOf rowOf done doneCount stateAt panelSum addPanel tileAt tileStep walk tilesFrom addressAt entryAt setting acceptQuestions sizeQuestion sizesFit roomQuestion doneQuestion indexQuestion tileQuestions stateQuestions ranCall tileCall stateCall run
+unfolding sumTo each put axes axesOf layoutOf address labels together groupOf inGroup group index entry tensorQuestions labelQuestions entryQuestions layoutQuestions rankFits countsMatch lettersValid extentsValid stridesValid sizesValid extentsAgree points pointsFit span inside below apart blocks width MB NB KB total tileNumber batchOf columnOf panelOf rowOf done doneCount stateAt panelSum addPanel tileAt visitTile walkTiles tilesFrom addressAt entryOn setting acceptQuestions sizeQuestion sizesFit roomQuestion doneQuestion indexQuestion tileQuestions stateQuestions ranCall tileCall stateCall run
 calls = (refl, refl)

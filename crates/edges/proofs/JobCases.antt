@@ -22,8 +22,9 @@ use Rattle.meaning.specs.Index.{index}
 use Rattle.meaning.specs.Meaning.{entry}
 use Rattle.tiles.specs.Cut.{blocks, width, MB, NB, KB, total, tileNumber, batchOf, columnOf, panelOf, rowOf}
 use Rattle.tiles.specs.Progress.{done, doneCount, stateAt}
-use Rattle.tiles.specs.Setting.{panelSum, render, addPanel, tileAt, tileStep, walk, tilesFrom}
-use Rattle.tile_blocks.specs.ContractionInTiles.{addressAt, entryAt, setting}
+use Rattle.tiles.specs.TileWalk.{tileAt, visitTile, walkTiles}
+use Rattle.tiles.specs.Setting.{panelSum, render, addPanel, tilesFrom}
+use Rattle.tile_blocks.specs.ContractionInTiles.{addressAt, entryOn, setting}
 use Rattle.tile_questions.specs.TileQuestions.{sizesFit, sizeQuestion, roomQuestion, doneQuestion, acceptQuestions, tileQuestions}
 use Rattle.tiled.specs.TileCall.{ranCall, tileCall}
 use Rattle.records.specs.Records.{got}
@@ -53,7 +54,7 @@ unfolding calledWith runText readingText jobText
 read-text file read = ap readingText read
 
 both-called : (work : List ℕ) → length work ≡ workRoom → (calledWith exampleJob work ≡ exampleText) × (calledWith skewedJob work ≡ skewedText)
-unfolding calledWith each put sumTo axesOf layoutOf axes address rankFits countsMatch lettersValid extentsValid stridesValid sizesValid labels extentsAgree points pointsFit span inside below apart together tensorQuestions labelQuestions entryQuestions layoutQuestions groupOf inGroup group index entry blocks width MB NB KB total tileNumber batchOf columnOf panelOf rowOf done doneCount stateAt panelSum render addPanel tileAt tileStep walk tilesFrom addressAt entryAt setting sizesFit sizeQuestion roomQuestion doneQuestion acceptQuestions tileQuestions ranCall tileCall stateLetters digitsOf refusedText tilesLine wordLine wordLines reportText answerText callText
+unfolding calledWith each put sumTo axesOf layoutOf axes address rankFits countsMatch lettersValid extentsValid stridesValid sizesValid labels extentsAgree points pointsFit span inside below apart together tensorQuestions labelQuestions entryQuestions layoutQuestions groupOf inGroup group index entry blocks width MB NB KB total tileNumber batchOf columnOf panelOf rowOf done doneCount stateAt panelSum render addPanel tileAt visitTile walkTiles tilesFrom addressAt entryOn setting sizesFit sizeQuestion roomQuestion doneQuestion acceptQuestions tileQuestions ranCall tileCall stateLetters digitsOf refusedText tilesLine wordLine wordLines reportText answerText callText
 both-called work e = rw e (refl, refl)
 
 refused-21 : refusedText 21 ≡ codes "refused 21\n"

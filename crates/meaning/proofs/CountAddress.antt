@@ -3,7 +3,6 @@
 use mathlib.Core.Path.{_≡_, refl, ap, sym, _∙_}
 use mathlib.Core.Bool.{Bool, true, false, cond, true≢false}
 use mathlib.Core.List.{List, [], _∷_, map}
-use mathlib.Core.Logic.{_≢_}
 use Prim.Native.Nat.{ℕ, _+_, _*_, _/_, _%_}
 use native.Mathlib.Omega.{arith}
 use lib.IntN.{ℤ}
@@ -18,7 +17,7 @@ use Rattle.labels.specs.Labels.{labels}
 use Rattle.entries.proofs.Stride.{partOf, strideOf-parts}
 use Rattle.entries.proofs.ByLabel.{labels-unique}
 use Rattle.contraction.specs.Operands.{Operand, Shape, together}
-use Rattle.groups.specs.Groups.{Label, label, Group, groupOf, groupNumber, inGroup, labelsWhere, group}
+use Rattle.groups.specs.Groups.{Label, label, Group, inGroup, labelsWhere, group}
 use Rattle.offsets.specs.Counts.{offset, offsetIn}
 use Rattle.meaning.specs.Index.{assign, at}
 
@@ -34,6 +33,11 @@ Distinct (l ∷ g) = Fresh (l .letter) g × Distinct g
 pub at-fresh : (g : List Label) (n : ℕ) (ρ : ℕ → ℕ) (c : ℕ) → Fresh c g → at g n ρ c ≡ ρ c
 at-fresh [] n ρ c h = refl
 at-fresh (l ∷ g) n ρ c h = rw (h .0) (at-fresh g (n / l .extent) ρ c (h .1))
+
+-- where two indices agree at a letter, they do at a count too
+pub at-agrees : (g : List Label) (n : ℕ) (ρ σ : ℕ → ℕ) (c : ℕ) → ρ c ≡ σ c → at g n ρ c ≡ at g n σ c
+at-agrees [] n ρ σ c e = e
+at-agrees (l ∷ g) n ρ σ c e = ap (cond (eqb c (l .letter)) (n % l .extent)) (at-agrees g (n / l .extent) ρ σ c e)
 
 module _ (part : ℤ → ℕ) where
   along-assign : (xs : List Axis) (ρ : ℕ → ℕ) (c v : ℕ) → ρ c ≡ 0 → along part xs (assign ρ c v) ≡ along part xs ρ + v * partOf part xs c
@@ -82,9 +86,9 @@ module _ (s : Shape) where
   group-distinct g = where-distinct (inGroup s g)
 
   -- a count of one group leaves the letters of the others as they are
-  pub clear : (g : Group) (n : ℕ) (ρ : ℕ → ℕ) (c : ℕ) → groupNumber (groupOf s c) ≢ groupNumber g → at (group s g) n ρ c ≡ ρ c
-  unfolding group inGroup
-  clear g n ρ c h = where-clear (inGroup s g) n ρ c (eqb-ne (groupNumber (groupOf s c)) (groupNumber g) h)
+  pub clear : (g : Group) (n : ℕ) (ρ : ℕ → ℕ) (c : ℕ) → inGroup s g c ≡ false → at (group s g) n ρ c ≡ ρ c
+  unfolding group
+  clear g = where-clear (inGroup s g)
 
   module _ (part : ℤ → ℕ) (o : Operand) where
     -- the part of a label's strides in a tensor

@@ -10,8 +10,9 @@ use native.Mathlib.Omega.{arith}
 use lib.Dec.{T}
 use lib.IntN.{ℤ}
 use Rattle.words.specs.Sums.{All, sumOf}
-use Rattle.words.specs.Lists.{member}
+use Rattle.words.specs.Lists.{cons-if, keep, member}
 use Rattle.words.specs.Words.{up, down}
+use Rattle.words.proofs.Lists.{all-map, all-unmap, keep-all}
 use Rattle.layout.specs.declared.layout.Layout.{Layout}
 use Rattle.layout.specs.Layout.{along, address}
 use Rattle.layout.proofs.Address.{along-zero}
@@ -52,6 +53,19 @@ missed (p ∷ ps) c h = rw (h .0) (missed ps c (h .1))
 -- the parts of some tests, each at its count
 abbrev pub partsAt : {X : Type 0} → (X → ℕ → Bool) → (X → ℕ) → List X → List Part
 partsAt test n xs = map (λ x. record { test = test x; count = n x }) xs
+
+-- of separate parts those that a test keeps are separate
+pub kept-separate : {X : Type 0} (test : X → ℕ → Bool) (n : X → ℕ) (q : X → Bool) (xs : List X) → Separate (partsAt test n xs)
+    → Separate (partsAt test n (keep q xs))
+kept-separate test n q [] h = tt
+kept-separate {X} test n q (x ∷ xs) h = go (q x) (kept-separate test n q xs (h .1))
+  where
+    part : X → Part
+    part x = record { test = test x; count = n x }
+
+    go : (b : Bool) → Separate (partsAt test n (keep q xs)) → Separate (partsAt test n (cons-if b x (keep q xs)))
+    go true r = (λ c e. all-map (Misses c) part (keep q xs) (keep-all (λ x. test x c ≡ false) q xs (all-unmap (Misses c) part xs (h .0 c e))), r)
+    go false r = r
 
 -- whatever the counts, each letter of a tensor passes just one of the tests, and other letters none
 pub record Splits (s : Shape) (o : Operand) {X : Type 0} (test : X → ℕ → Bool) (xs : List X) : Type 0 where

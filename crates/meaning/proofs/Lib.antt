@@ -4,9 +4,9 @@ pub mod EngineIndices
 pub mod ExtentsAgree
 pub mod Index
 pub mod IndexParts
-pub mod Lacks
 pub mod Nested
 pub mod Onto
 pub mod Outputs
+pub mod OwnGroups
 pub mod Result
 pub mod Values

@@ -1,4 +1,4 @@
--- Indices: a value for each letter. The index of a count of a group, and sums over all values of a group's labels.
+-- Indices: a value for each letter. The index of counts of groups, and sums over all values of a group's labels.
 -- Assumes nothing.
 use Prim.Native.Nat.{ℕ, _/_, _%_}
 use mathlib.Core.Bool.{cond}
@@ -6,7 +6,7 @@ use mathlib.Core.List.{List, [], _∷_}
 use lib.Dec.{eqb}
 use Rattle.words.specs.Sums.{sumTo}
 use Rattle.contraction.specs.Operands.{Shape}
-use Rattle.groups.specs.Groups.{Label, Group, batch, row, column, depth, group, outputs}
+use Rattle.groups.specs.Groups.{Label, Group, group, outputs}
 
 -- the index ρ with the value v for the letter c
 abbrev pub assign : (ℕ → ℕ) → ℕ → ℕ → ℕ → ℕ
@@ -22,9 +22,10 @@ abbrev pub sumOver : List Label → ((ℕ → ℕ) → ℕ) → (ℕ → ℕ) �
 sumOver [] f ρ = f ρ
 sumOver (l ∷ g) f ρ = sumTo (l .extent) (λ v. sumOver g f (assign ρ (l .letter) v))
 
--- the index at four counts, one for each group
-unfoldable pub index : Shape → (Group → ℕ) → ℕ → ℕ
-index s n = at (group s depth) (n depth) (at (group s batch) (n batch) (at (group s row) (n row) (at (group s column) (n column) (λ c. 0))))
+-- the index at the counts of some groups; a letter of any other group has 0
+unfoldable pub index : Shape → List (Group × ℕ) → ℕ → ℕ
+index s [] = λ c. 0
+index s ((g, n) ∷ counts) = at (group s g) n (index s counts)
 
 -- the index of a count of D's labels
 unfoldable pub outIndex : Shape → ℕ → ℕ → ℕ

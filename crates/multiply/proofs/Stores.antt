@@ -9,7 +9,7 @@ use mir.Syntax.{w64}
 use mir.Val.{Fits}
 use lib.ListN.{getD}
 use Rattle.words.specs.Loops.{each, put, Within}
-use Rattle.words.proofs.Store.{each-ext}
+use Rattle.words.proofs.Loops.{each-ext}
 use Rattle.words.proofs.Lanes.{lane-inside}
 use Rattle.limits.specs.Limits.{blockLimit}
 use Rattle.block.specs.Block.{Step}

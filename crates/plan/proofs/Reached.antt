@@ -8,10 +8,10 @@ use native.Mathlib.Omega.{arith}
 use borrow.Author.Tests.{leb-true}
 use lib.Dec.{leb}
 use lib.IntN.{ℤ}
-use Rattle.words.specs.Sums.{sumOf}
+use Rattle.words.specs.Sums.{All, sumOf}
 use Rattle.words.specs.Lists.{member}
 use Rattle.words.specs.Words.{word, up, down, wordOf}
-use Rattle.words.proofs.Lists.{T-true}
+use Rattle.words.proofs.Lists.{T-true, all-map}
 use Rattle.words.proofs.Sums.{and-split}
 use Rattle.words.proofs.Modular.{word-add-left}
 use Rattle.words.proofs.Whole.{sign}
@@ -23,12 +23,13 @@ use Rattle.entries.specs.Bounds.{Inside}
 use Rattle.entries.proofs.Bounds.{inside-every}
 use Rattle.contraction.specs.Operands.{Operand, D, shape}
 use Rattle.questions.proofs.Ready.{AllPassed}
-use Rattle.groups.specs.Groups.{letters, Group, batch, row, column, depth, labelsWhere, group, outputs, size}
+use Rattle.groups.specs.Groups.{letters, Group, depth, inGroup, labelsWhere, group, outputs, size}
 use Rattle.offsets.specs.Counts.{offsetIn}
 use Rattle.folding.specs.Fold.{fold}
-use Rattle.meaning.specs.Index.{at, index, outIndex}
-use Rattle.meaning.proofs.EngineIndices.{groupsAt, groups-separate, groups-cover, outputAt, depthAt, out-separate, out-covers, term-separate, term-covers}
+use Rattle.meaning.specs.Index.{at, outIndex}
+use Rattle.meaning.proofs.EngineIndices.{outputAt, depthAt, out-separate, out-covers, term-separate, term-covers}
 use Rattle.meaning.proofs.IndexParts.{Part, Separate, Below, covered, atParts, offsets, parts-in-range, parts-balanced, address-parts}
+use Rattle.meaning.proofs.OwnGroups.{groupsOf, groupsAt, own-separate, own-cover}
 use Rattle.plan.proofs.GroupsFoldable.{where-foldable}
 use Rattle.plan.proofs.Wrapped.{wraps, folded-word}
 
@@ -64,15 +65,28 @@ module _ (t : Operand → Layout) (n : Operand → ℕ) (p : AllPassed t n) wher
         (omega (arith, parts-inside .0, parts-balanced s o ps apart)) (rw (← address-parts t o ps apart) bound)
         ∙ sym (address-parts t o ps apart)
 
-  -- ---- four groups at their counts
-  module _ (m : Group → ℕ) (h : (g : Group) → m g < size (group (shape t) g)) (o : Operand) where
-    pub index-inside : Inside (t o) (n o) (index (shape t) m)
-    unfolding index group
-    index-inside = parts-inside o (groupsAt (shape t) m) (groups-separate (shape t) m) (h depth, (h batch, (h row, (h column, tt)))) (λ c e. groups-cover (shape t) m c)
+  -- ---- the groups of a tensor at their counts
+  module _ (o : Operand) (m : Group → ℕ) (h : All (λ g. m g < size (group (shape t) g)) (groupsOf o)) where
+    abbrev own : List Part
+    own = groupsAt (shape t) m (groupsOf o)
 
-    pub reached-index : word 64 (t o .base + foldedOffsets (wordOf 64) o (groupsAt (shape t) m)) ≡ address (t o) (index (shape t) m)
-    unfolding index group
-    reached-index = reached-parts o (groupsAt (shape t) m) (groups-separate (shape t) m) (h depth, (h batch, (h row, (h column, tt)))) (λ c e. groups-cover (shape t) m c)
+    own-below : Below (shape t) own
+    unfolding group
+    own-below = all-map (λ q. q .count < size (labelsWhere (shape t) (q .test))) (λ g. record { test = inGroup (shape t) g; count = m g }) (groupsOf o) h
+
+    pub index-inside : Inside (t o) (n o) (atParts (shape t) own)
+    index-inside = parts-inside o own (own-separate (shape t) m o) own-below (own-cover (shape t) m o)
+
+    abbrev groupOffset : Group → ℕ
+    groupOffset g = offsetIn (wordOf 64) o (fold (group (shape t) g)) (m g)
+
+    group-offsets : (gs : List Group) → sumOf groupOffset gs ≡ foldedOffsets (wordOf 64) o (groupsAt (shape t) m gs)
+    unfolding group
+    group-offsets [] = refl
+    group-offsets (g ∷ gs) = ap (λ (x : ℕ). groupOffset g + x) (group-offsets gs)
+
+    pub reached-index : word 64 (t o .base + sumOf groupOffset (groupsOf o)) ≡ address (t o) (atParts (shape t) own)
+    reached-index = rw (group-offsets (groupsOf o)) (reached-parts o own (own-separate (shape t) m o) own-below (own-cover (shape t) m o))
 
   -- ---- an output count, alone in D, and with a depth count in every tensor
   module _ (m : ℕ) (h : m < size (outputs (shape t))) where

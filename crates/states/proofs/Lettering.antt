@@ -13,7 +13,7 @@ use Rattle.words.specs.Words.{word, wordOf}
 use Rattle.words.specs.Lists.{tabulate}
 use Rattle.words.specs.Loops.{each, put}
 use Rattle.words.proofs.Lists.{eqb-true}
-use Rattle.words.proofs.Store.{each-ext}
+use Rattle.words.proofs.Loops.{each-ext}
 use Rattle.words.proofs.Tabulate.{length-tabulate, getD-tabulate}
 use Rattle.contraction.specs.declared.contraction.Contraction.{Contraction}
 use Rattle.contraction.specs.Operands.{Operand, A, D, three, tensors, lengths}
@@ -37,8 +37,7 @@ use Rattle.tiles.specs.Cut.{Cut, total}
 use Rattle.tiles.specs.Grid.{cutIn}
 use Rattle.tiles.specs.Progress.{State, stateAt}
 use Rattle.tiles.specs.Setting.{render}
-use Rattle.tiles.proofs.Sound.{Sound}
-use Rattle.tiles.proofs.Closed.{render-shows}
+use Rattle.tiles.proofs.Closed.{Sound, render-shows}
 use Rattle.tile_blocks.specs.ContractionInTiles.{cutOf, setting}
 use Rattle.tile_blocks.specs.Planned.{GridOf, PlanFits, placeD}
 use Rattle.tile_questions.specs.TileQuestions.{sizeQuestion, roomQuestion, doneQuestion, acceptQuestions, Accepted, tileQuestions}

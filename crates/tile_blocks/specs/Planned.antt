@@ -54,7 +54,7 @@ module _ (p : Plan) where
   readIn a b s h m k = getD (both a b s) (placeIn s h m k) 0
 
   unfoldable pub planSetting : Cut → ℕ → ℕ → List ℕ → List ℕ → Setting
-  planSetting G alpha beta a b = settingBy G placeD (λ h i j k. readIn a b left h i k) (λ h i j k. readIn a b right h j k) alpha beta
+  planSetting G alpha beta a b = settingBy G placeD (readIn a b left) (readIn a b right) alpha beta
 
   -- all that tiles read and write is inside
   pub record Clear (G : Cut) (a b d : ℕ) : Type 0 where

@@ -1,33 +1,28 @@
 -- What the tile code computes by a plan's address words is what the contraction's setting says: the words that it reads are the entries at the counts.
--- A has the same entry at every column count and B at every row count, since each lacks those labels.
 -- Assumes nothing.
 use mathlib.Core.Path.{_≡_, refl, ap}
-use mathlib.Core.List.{List}
-use mathlib.Core.Logic.{_≢_}
-use Prim.Native.Nat.{ℕ, zero, suc, _+_, _-_, _*_, _≤_, _<_}
-use native.Mathlib.Omega.{arith}
-use borrow.Author.Tests.{ne-eqb}
+use mathlib.Core.List.{List, [], _∷_}
+use Prim.Native.Nat.{ℕ, _*_, _<_}
 use lib.ListN.{length, getD}
+use Rattle.words.specs.Sums.{All}
 use Rattle.words.proofs.Tabulate.{tabulate-ext}
 use Rattle.contraction.specs.declared.contraction.Contraction.{Contraction}
 use Rattle.contraction.specs.Operands.{A, B, tensors}
 use Rattle.questions.proofs.Ready.{AllPassed}
-use Rattle.groups.specs.Groups.{Group, batch, row, column, depth, groupNumber}
-use Rattle.meaning.specs.Meaning.{Slices, shapeIn, entry}
-use Rattle.meaning.proofs.Lacks.{lacking, lacks, address-lacks}
+use Rattle.meaning.specs.Meaning.{Slices, entry}
 use Rattle.plan.specs.declared.plan.Plan.{Plan}
 use Rattle.plan.specs.Plan.{Planned}
 use Rattle.pack.proofs.Packing.{packed-ext}
 use Rattle.tiles.specs.declared.grid.Sizes.{Sizes}
 use Rattle.tiles.specs.Cut.{Cut, width, total, panelOf}
-use Rattle.tiles.specs.Setting.{walk, tilesFrom}
+use Rattle.tiles.specs.Setting.{walk}
 use Rattle.tiles.proofs.SettingsAgree.{Agree, walk-agrees as walk-same}
 use Rattle.tiles.proofs.Cuts.{place-in}
 use Rattle.tiles.proofs.Numbering.{tile-of}
-use Rattle.tile_blocks.specs.Side.{Side, left, right, both, tensorOn, sizeOn, tileOn, blockOn}
-use Rattle.tile_blocks.specs.ContractionInTiles.{groupCounts, cutOf, entryAt, setting}
+use Rattle.tile_blocks.specs.Side.{Side, left, right, sizeOn, tileOn, blockOn}
+use Rattle.tile_blocks.specs.ContractionInTiles.{cutOf, entryOn, setting}
 use Rattle.tile_blocks.specs.Planned.{readIn, planSetting}
-use Rattle.tiling.specs.Work.{packedBlock, packed, packedLast, entryOn, workAfter}
+use Rattle.tiling.specs.Work.{packedBlock, packed, packedLast, workAfter}
 use Rattle.accept.proofs.Reaches.{side-entry, reaches-d}
 
 -- entries that agree at every count in range are packed alike: the words of a block, and of the work slice
@@ -43,30 +38,18 @@ module _ (G : Cut) {entry entry′ : Side → ℕ → ℕ → ℕ → ℕ}
   unfolding packed
   packed-agrees n b work = rw (tabulate-ext (G .rows * G .depth) (λ x _. block-agrees left n b x), tabulate-ext (G .cols * G .depth) (λ x _. block-agrees right n b x))
 
-  last-agrees : (t n : ℕ) → t + n ≤ total G → (work : List ℕ) → packedLast G entry t n work ≡ packedLast G entry′ t n work
+  last-agrees : (ns : List ℕ) → All (λ n. n < total G) ns → (work : List ℕ) → packedLast G entry ns work ≡ packedLast G entry′ ns work
   unfolding packedLast
-  last-agrees t zero h work = refl
-  last-agrees t (suc n) h work = rw (ne-eqb (suc n) 0 (omega arith)) (packed-agrees (t + suc n - 1) (omega arith) work)
+  last-agrees [] below work = refl
+  last-agrees (n ∷ []) below work = packed-agrees n (below .0) work
+  last-agrees (l ∷ m ∷ ns) below work = last-agrees (m ∷ ns) (below .1) work
 
 module _ (c : Contraction) (z : Sizes) (w : Slices) (ok : AllPassed (tensors c) (λ o. length (w o))) (p : Plan) (q : Planned (tensors c) p) where
   -- what is read are the entries
   read-is : (s : Side) (h m k : ℕ) → h < cutOf c z .H → m < sizeOn (cutOf c z) s → k < cutOf c z .K → readIn p (w A) (w B) s h m k ≡ entryOn c w s h m k
-  unfolding entryOn entryAt entry
+  unfolding entryOn entry
   read-is left h m k bh bm bk = ap (λ (x : ℕ). getD (w A) x 0) (side-entry c (λ o. length (w o)) ok p q left h m k bh bm bk .is)
   read-is right h m k bh bm bk = ap (λ (x : ℕ). getD (w B) x 0) (side-entry c (λ o. length (w o)) ok p q right h m k bh bm bk .is)
-
-  -- and they don't depend on the labels that a tensor lacks
-  any-other : (s : Side) (h i j k : ℕ) → entryOn c w s h (both i j s) k ≡ entryAt c w (tensorOn s) h i j k
-  unfolding entryOn entryAt entry
-  any-other s h i j k = ap (λ (x : ℕ). getD (w (tensorOn s)) x 0) (address-lacks (tensors c) (tensorOn s) _ (lacks (shapeIn c) (tensorOn s)) _ _ (same s))
-    where
-      same : (s : Side) (g : Group) → groupNumber g ≢ groupNumber (lacking (tensorOn s)) → groupCounts h (both (both i j s) 0 s) (both 0 (both i j s) s) k g ≡ groupCounts h i j k g
-      same s batch d = refl
-      same s depth d = refl
-      same left row d = refl
-      same left column d = absurd (d refl)
-      same right row d = absurd (d refl)
-      same right column d = refl
 
   settings-agree : Agree (planSetting p (cutOf c z) (c .alpha) (c .beta) (w A) (w B)) (setting c z w)
   unfolding planSetting setting
@@ -76,15 +59,14 @@ module _ (c : Contraction) (z : Sizes) (w : Slices) (ok : AllPassed (tensors c) 
         alpha = refl;
         start = λ h i j old. refl;
         addr = λ h i j bh bi bj. reaches-d c (λ o. length (w o)) ok p q h i j bh bi bj;
-        term = λ h i j k bh bi bj bk. rw (read-is left h i k bh bi bk, any-other left h i j k, read-is right h j k bh bj bk, any-other right h i j k);
+        term = λ h i j k bh bi bj bk. rw (read-is left h i k bh bi bk, read-is right h j k bh bj bk);
       }
 
-  pub walk-agrees : (t n : ℕ) → t + n ≤ total (cutOf c z) → (d : List ℕ)
-      → walk (planSetting p (cutOf c z) (c .alpha) (c .beta) (w A) (w B)) (tilesFrom t n) d ≡ walk (setting c z w) (tilesFrom t n) d
-  unfolding planSetting
-  walk-agrees t n h d = walk-same settings-agree t n h d
+  module _ (ns : List ℕ) (below : All (λ n. n < total (cutOf c z)) ns) where
+    pub walk-agrees : (d : List ℕ) → walk (planSetting p (cutOf c z) (c .alpha) (c .beta) (w A) (w B)) ns d ≡ walk (setting c z w) ns d
+    unfolding planSetting
+    walk-agrees d = walk-same settings-agree ns below d
 
-  pub work-agrees : (t n : ℕ) → t + n ≤ total (cutOf c z) → (work : List ℕ)
-      → packedLast (cutOf c z) (readIn p (w A) (w B)) t n work ≡ workAfter c z w t n work
-  unfolding workAfter
-  work-agrees t n h work = last-agrees (cutOf c z) read-is t n h work
+    pub work-agrees : (work : List ℕ) → packedLast (cutOf c z) (readIn p (w A) (w B)) ns work ≡ workAfter c z w ns work
+    unfolding workAfter
+    work-agrees work = last-agrees (cutOf c z) read-is ns below work

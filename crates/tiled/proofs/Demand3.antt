@@ -18,8 +18,7 @@ use Rattle.tiles.specs.declared.grid.Sizes.{Sizes}
 use Rattle.tiles.specs.Cut.{total}
 use Rattle.tiles.specs.Setting.{Setting, closed, walk, tilesFrom}
 use Rattle.tiles.proofs.States.{old-none, final-all}
-use Rattle.tiles.proofs.Sound.{Sound}
-use Rattle.tiles.proofs.Closed.{length-closed, closed-shows, walk-closed, closed-zero}
+use Rattle.tiles.proofs.Closed.{Sound, length-closed, closed-shows, walk-closed, closed-zero}
 use Rattle.tile_blocks.specs.ContractionInTiles.{cutOf, addressAt, setting}
 use Rattle.tile_questions.specs.TileQuestions.{workFits, acceptQuestions}
 use Rattle.tiled.specs.TileCall.{doneIn, ran, tileRefused, TileCall, tileCallOf, ranCall, tileCall, stateCall}

@@ -62,7 +62,7 @@ module _ (c : Contraction) (z : Sizes) (w : Slices) where
   ranCall work t budget =
       tileCallOf (ran (t + toRun t budget) (eqb (t + toRun t budget) (total (cutOf c z))))
       (walk (setting c z w) (tilesFrom t (toRun t budget)) (w D))
-      (workAfter c z w t (toRun t budget) work)
+      (workAfter c z w (tilesFrom t (toRun t budget)) work)
 
   -- where questions 1 to 12 pass, the tiles run; else the number of the first no, the count as given, and no word changed
   unfoldable pub tileCall : List ℕ → ℕ → ℕ → TileCall

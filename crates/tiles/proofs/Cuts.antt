@@ -4,7 +4,7 @@
 use mathlib.Core.Path.{_≡_, refl, sym, ap, _∙_}
 use mathlib.Core.Bool.{cond}
 use Prim.Native.Nat.{ℕ, zero, suc, _+_, _-_, _*_, _/_, _%_, _<_, _≤_, min}
-use native.Mathlib.Nat.{add-zero, add-suc, add-sub-of-le, le-add-right, le-div-iff-mul-le, div-lt-iff-lt-mul, div-mul-le-self, lt-div-mul-add, div-add-mod', mod-lt, mul-le-mul-left}
+use native.Mathlib.Nat.{add-zero, add-suc, add-sub-of-le, le-add-right, le-div-iff-mul-le, div-lt-iff-lt-mul, div-mul-le-self, div-zero, zero-lt-suc, lt-div-mul-add, div-add-mod', mod-lt, mul-le-mul-left}
 use native.Mathlib.Omega.{arith}
 use lib.Arith.{digits-div}
 use lib.Dec.{ltb}
@@ -28,6 +28,12 @@ unfolding blocks
 blocks-le {n} {b} hb =
     let k : (n + b - 1) / b < n + 1 = div-lt-iff-lt-mul hb .1 (omega (arith, mul-le-mul-left n hb)) in
     omega arith
+
+-- where there is a block, blocks have counts
+pub blocks-some : (n b : ℕ) {k : ℕ} → k < blocks n b → 0 < b
+unfolding blocks
+blocks-some n zero h = absurd (omega (arith, div-zero (n + 0 - 1)))
+blocks-some n (suc b) h = zero-lt-suc b
 
 -- ---- the place of a count in its block
 

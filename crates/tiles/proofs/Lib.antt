@@ -1,3 +1,4 @@
+pub mod Ascending
 pub mod Closed
 pub mod Cuts
 pub mod Numbering
@@ -5,6 +6,7 @@ pub mod PanelWords
 pub mod Progress
 pub mod SettingsAgree
 pub mod Sizes
-pub mod Sound
 pub mod States
 pub mod TileCases
+pub mod Visits
+pub mod Walked

@@ -3,20 +3,29 @@
 -- Assumes nothing.
 use mathlib.Core.Path.{_≡_, refl, sym, ap, _∙_}
 use mathlib.Core.Bool.{Bool, cond}
+use mathlib.Core.List.{List, [], _∷_, _++_}
 use Prim.Native.Nat.{ℕ, zero, suc, _+_, _*_, _<_, _≤_}
 use native.Mathlib.Nat.{not-suc-le-zero, zero-lt-suc, le-trans, le-max-right, mul-le-mul-right, min-eq-right, mul-add, add-assoc, zero-add, suc-ne-zero}
 use borrow.Author.Tests.{lt-ltb, ne-eqb}
 use Rattle.words.specs.Sums.{sumTo}
+use Rattle.words.specs.Lists.{tabulate}
 use Rattle.words.specs.Words.{word}
 use Rattle.words.proofs.Sums.{sumTo-ext}
+use Rattle.words.proofs.Tabulate.{tabulate-suc}
 use Rattle.words.proofs.Modular.{word-add-left}
 use Rattle.tiles.specs.Cut.{blocks, KB}
 use Rattle.tiles.specs.Progress.{final, stateAt}
+use Rattle.tiles.specs.TileWalk.{after}
 use Rattle.tiles.specs.Setting.{Setting, panelSum, doneSum, wordAt, addPanel}
 use Rattle.tiles.proofs.Cuts.{blocks-cover, sumTo-below, sumTo-panels}
 use Rattle.tiles.proofs.Numbering.{KB-pos}
 use Rattle.tiles.proofs.Progress.{Reached}
 use Rattle.tiles.proofs.States.{final-reached, final-stays}
+
+after-append : {X : Type 0} (f : ℕ → X → X) (ps qs : List ℕ) (x : X) → after f (ps ++ qs) x ≡ after f qs (after f ps x)
+unfolding after
+after-append f [] qs x = refl
+after-append f (p ∷ ps) qs x = after-append f ps qs (f p x)
 
 module _ (S : Setting) (h i j : ℕ) where
   open Setting S using (cut, term, alpha, start)
@@ -35,12 +44,8 @@ module _ (S : Setting) (h i j : ℕ) where
   reached-word zero r w = rw (r .which 0 (KB-pos cut))
   reached-word (suc q) r w = rw (r .which 0 (KB-pos cut), lt-ltb 0 (suc q) (zero-lt-suc q), reached-sum r)
 
-  pub word-none : (w : ℕ) → wordBy 0 w ≡ w
-  unfolding wordBy
-  word-none w = refl
-
   -- panel q takes the word from q panels to q + 1
-  pub word-add : (q w : ℕ) → addPanel S q h i j (wordBy q w) ≡ wordBy (suc q) w
+  word-add : (q w : ℕ) → addPanel S q h i j (wordBy q w) ≡ wordBy (suc q) w
   unfolding addPanel wordBy sumTo
   word-add zero w = ap (λ (s : ℕ). word 32 (start h i j w + alpha * s)) (sym (zero-add (panelSum S h i j 0)))
   word-add (suc q) w =
@@ -49,6 +54,16 @@ module _ (S : Setting) (h i j : ℕ) where
       ap (λ (c : Bool). word 32 (cond c (start h i j (wordBy (suc q) w)) (wordBy (suc q) w) + alpha * x)) (ne-eqb (suc q) 0 (suc-ne-zero q))
       ∙ word-add-left 32 (start h i j w + alpha * s) (alpha * x)
       ∙ ap (word 32) (add-assoc (start h i j w) (alpha * s) (alpha * x) ∙ ap (λ (y : ℕ). start h i j w + y) (sym (mul-add alpha s x)))
+
+  -- the first q panels, one after the other
+  pub first-words : (q w : ℕ) → after (λ p. addPanel S p h i j) (tabulate q (λ k. k)) w ≡ wordBy q w
+  unfolding after wordBy
+  first-words zero w = refl
+  first-words (suc q) w =
+      ap (λ (ps : List ℕ). after (λ p. addPanel S p h i j) ps w) (tabulate-suc q (λ k. k))
+      ∙ after-append (λ p. addPanel S p h i j) (tabulate q (λ k. k)) (q ∷ []) w
+      ∙ ap (addPanel S q h i j) (first-words q w)
+      ∙ word-add q w
 
   -- after all panels, the sum over the whole depth
   sum-all : 0 < cut .depth → sumTo (KB cut) (panelSum S h i j) ≡ sumTo (cut .K) (term h i j)

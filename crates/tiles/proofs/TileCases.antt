@@ -1,13 +1,14 @@
--- Tile numbers and states, by computation.
+-- Tile numbers, states and the panels of a list, by computation.
 -- Assumes nothing.
 use mathlib.Core.Path.{refl}
 use Rattle.words.specs.Sums.{sumTo}
 use Rattle.tiles.specs.Cut.{blocks, width, MB, NB, KB, total, tileNumber, batchOf, columnOf, panelOf, rowOf}
 use Rattle.tiles.specs.Progress.{done, doneCount, stateAt}
+use Rattle.tiles.specs.TileWalk.{holds, panelsOf, after}
 use Rattle.tiles.specs.TileCases.{TileCases}
 
 pub tile-cases : TileCases
-unfolding sumTo blocks width MB NB KB total tileNumber batchOf columnOf panelOf rowOf done doneCount stateAt
+unfolding sumTo blocks width MB NB KB total tileNumber batchOf columnOf panelOf rowOf done doneCount stateAt holds panelsOf after
 tile-cases =
     record {
       blocks = refl;
@@ -17,4 +18,6 @@ tile-cases =
       number = refl;
       tile-34 = refl;
       state-by-state = refl;
+      panels-listed = refl;
+      in-order = refl;
     }

@@ -3,3 +3,4 @@ pub mod Grid
 pub mod Progress
 pub mod Setting
 pub mod TileCases
+pub mod TileWalk

@@ -2,14 +2,15 @@
 -- Assumes nothing.
 use Prim.Native.Nat.{ℕ, _+_, _-_, _*_, min}
 use mathlib.Core.Bool.{cond}
-use mathlib.Core.List.{List, [], _∷_}
+use mathlib.Core.List.{List}
 use lib.Dec.{eqb}
 use Rattle.words.specs.Sums.{sumTo}
 use Rattle.words.specs.Lists.{tabulate}
 use Rattle.words.specs.Words.{word}
 use Rattle.words.specs.Loops.{each, put}
-use Rattle.tiles.specs.Cut.{Cut, width, KB, batchOf, columnOf, panelOf, rowOf}
+use Rattle.tiles.specs.Cut.{Cut, KB}
 use Rattle.tiles.specs.Progress.{done}
+use Rattle.tiles.specs.TileWalk.{visitTile, walkTiles}
 
 pub record Setting : Type 0 where
   pub cut : Cut
@@ -18,14 +19,14 @@ pub record Setting : Type 0 where
   pub alpha : ℕ
   pub start : ℕ → ℕ → ℕ → ℕ → ℕ  -- what panel 0 starts from at h, i, j, given the old word
 
--- a cut, where each output index lies, A's and B's entry at four counts, and the factors: a term is the product of the two entries, and panel 0 starts from
--- beta × the old word
-abbrev pub settingBy : Cut → (ℕ → ℕ → ℕ → ℕ) → (ℕ → ℕ → ℕ → ℕ → ℕ) → (ℕ → ℕ → ℕ → ℕ → ℕ) → ℕ → ℕ → Setting
-settingBy G addr a b alpha beta = record { cut = G; addr = addr; term = λ h i j k. a h i j k * b h i j k; alpha = alpha; start = λ h i j old. beta * old }
+-- a cut, where each output index lies, A's entry at a batch, a row and a depth count, B's at a batch, a column and a depth count, and the factors: a term is
+-- the product of the two entries, and panel 0 starts from beta × the old word
+abbrev pub settingBy : Cut → (ℕ → ℕ → ℕ → ℕ) → (ℕ → ℕ → ℕ → ℕ) → (ℕ → ℕ → ℕ → ℕ) → ℕ → ℕ → Setting
+settingBy G addr a b alpha beta = record { cut = G; addr = addr; term = λ h i j k. a h i k * b h j k; alpha = alpha; start = λ h i j old. beta * old }
 
 module _ (S : Setting) where
   open Setting S using (cut, addr, term, alpha, start)
-  open Cut (S .cut) using (H, M, N, K, rows, cols, depth)
+  open Cut (S .cut) using (H, M, N, K, depth)
 
   -- ---- in closed form
 
@@ -55,19 +56,17 @@ module _ (S : Setting) where
   unfoldable pub addPanel : ℕ → ℕ → ℕ → ℕ → ℕ → ℕ
   addPanel p h i j w = word 32 (cond (eqb p 0) (start h i j w) w + alpha * panelSum h i j p)
 
-  -- the tile of h, c, p, r: row a of its block is row r * rows + a, column b is column c * cols + b
-  unfoldable pub tileAt : ℕ → ℕ → ℕ → ℕ → List ℕ → List ℕ
-  tileAt h c p r =
-      each (width N cols c) (λ b. each (width M rows r) (λ a.
-      put (addPanel p h (r * rows + a) (c * cols + b)) (addr h (r * rows + a) (c * cols + b))))
+  -- and it takes the word's place
+  abbrev pub visit : ℕ → ℕ → ℕ → ℕ → List ℕ → List ℕ
+  visit p h i j = put (addPanel p h i j) (addr h i j)
 
-  unfoldable pub tileStep : ℕ → List ℕ → List ℕ
-  tileStep n = tileAt (batchOf cut n) (columnOf cut n) (panelOf cut n) (rowOf cut n)
+  -- tile n
+  abbrev pub tileStep : ℕ → List ℕ → List ℕ
+  tileStep = visitTile cut visit
 
   -- the tiles of a list of numbers, one after the other
-  unfoldable pub walk : List ℕ → List ℕ → List ℕ
-  walk [] D = D
-  walk (n ∷ ns) D = walk ns (tileStep n D)
+  abbrev pub walk : List ℕ → List ℕ → List ℕ
+  walk = walkTiles cut visit
 
 -- the tile numbers t, t + 1, .., n of them
 unfoldable pub tilesFrom : ℕ → ℕ → List ℕ

@@ -1,10 +1,11 @@
 -- Tiles of 2 rows, 3 columns and depth 3 over batch size 2, row size 5, column size 4 and depth size 7: 3 row blocks, 2 column blocks, 3 panels.
 -- Assumes nothing.
-use Prim.Native.Nat.{ℕ}
+use Prim.Native.Nat.{ℕ, _+_, _*_}
 use mathlib.Core.Path.{_≡_}
 use mathlib.Core.List.{List, [], _∷_, map}
 use Rattle.tiles.specs.Cut.{Cut, width, MB, NB, KB, total, tileNumber, batchOf, columnOf, panelOf, rowOf}
 use Rattle.tiles.specs.Progress.{State, old, part, final, stateAt}
+use Rattle.tiles.specs.TileWalk.{panelsOf, after}
 
 abbrev pub small : Cut
 small = record { H = 2; M = 5; N = 4; K = 7; rows = 2; cols = 3; depth = 3 }
@@ -24,3 +25,6 @@ pub record TileCases : Type 0 where
   pub tile-34 : batchOf small 34 ∷ columnOf small 34 ∷ panelOf small 34 ∷ rowOf small 34 ∷ [] ≡ 1 ∷ 1 ∷ 2 ∷ 1 ∷ []
   -- "The state is old when no panel is done, final when all KB are, otherwise part": its panels are tiles 28, 31 and 34
   pub state-by-state : states (28 ∷ 29 ∷ 34 ∷ 35 ∷ []) ≡ old ∷ part ∷ part ∷ final ∷ []
+  -- a list brings it these panels in the list's order, one of them twice, and tile 29 is of another row block; applied in that order, each as one more digit
+  pub panels-listed : panelsOf small (31 ∷ 28 ∷ 29 ∷ 34 ∷ 28 ∷ []) 1 2 3 ≡ 1 ∷ 0 ∷ 2 ∷ 0 ∷ []
+  pub in-order : after (λ p x. 10 * x + p) (1 ∷ 0 ∷ 2 ∷ 0 ∷ []) 7 ≡ 71020

@@ -2,14 +2,12 @@
 -- at the tile's counts. In a run each tile packs over the blocks of the one before it, so only the last tile's blocks are left.
 -- Assumes nothing.
 use mathlib.Core.Path.{_≡_, refl, ap, sym, _∙_}
-use mathlib.Core.Bool.{Bool, cond}
-use mathlib.Core.List.{List, [], _++_, append-assoc, append-nil}
-use Prim.Native.Nat.{ℕ, zero, suc, _+_, _-_, _*_, _≤_, _<_}
-use native.Mathlib.Nat.{suc-ne-zero, le-refl}
+use mathlib.Core.List.{List, [], _∷_, _++_, append-assoc, append-nil}
+use Prim.Native.Nat.{ℕ, _+_, _-_, _*_, _≤_, _<_}
+use native.Mathlib.Nat.{le-refl}
 use native.Mathlib.Omega.{arith}
 use lib.ListN.{length, getD, take, drop, length-append, length-take, length-drop, drop-of-length-le, List·getD-append}
 use lib.Seq.{take-all, take-at, drop-at, drop-drop, getD-append-add}
-use borrow.Author.Tests.{ne-eqb}
 use borrow.Rule.Slice.PartMut.{midOf, putMid}
 use Rattle.words.specs.Lists.{tabulate}
 use Rattle.words.proofs.Tabulate.{length-tabulate, getD-tabulate}
@@ -101,21 +99,24 @@ module _ (G : Cut) (entry : Side → ℕ → ℕ → ℕ → ℕ) where
   packed-again m n work =
       ap (λ (l : List ℕ). tabulate (rows * depth) (packedBlock G entry left n) ++ (tabulate (cols * depth) (packedBlock G entry right n) ++ l)) (drop-packed m work)
 
-  -- no tile, and one tile more
-  pub packed-none : (t : ℕ) (work : List ℕ) → packedLast G entry t 0 work ≡ work
+  packed-over : (n : ℕ) (ns : List ℕ) (work : List ℕ) → packed G entry n (packedLast G entry ns work) ≡ packed G entry n work
   unfolding packedLast
-  packed-none t work = refl
+  packed-over n [] work = refl
+  packed-over n (m ∷ []) work = packed-again m n work
+  packed-over n (l ∷ m ∷ ns) work = packed-over n (m ∷ ns) work
 
-  packed-some : (t n : ℕ) (work : List ℕ) → packedLast G entry t (suc n) work ≡ packed G entry (t + n) work
+  packed-end : (ns : List ℕ) (n : ℕ) (work : List ℕ) → packedLast G entry (ns ++ n ∷ []) work ≡ packed G entry n work
   unfolding packedLast
-  packed-some t n work =
-      ap (λ (x : Bool). cond x work (packed G entry (t + suc n - 1) work)) (ne-eqb (suc n) 0 (suc-ne-zero n))
-      ∙ ap (λ (k : ℕ). packed G entry k work) (omega arith)
+  packed-end [] n work = refl
+  packed-end (m ∷ []) n work = refl
+  packed-end (l ∷ m ∷ ns) n work = packed-end (m ∷ ns) n work
 
-  pub packed-next : (t n : ℕ) (work : List ℕ) → packed G entry (t + n) (packedLast G entry t n work) ≡ packedLast G entry t (suc n) work
-  packed-next t zero work = rw (packed-none t work) (sym (packed-some t zero work))
-  packed-next t (suc n) work = rw (packed-some t n work, packed-again (t + n) (t + suc n) work) (sym (packed-some t (suc n) work))
+  -- for a loop: one tile more
+  pub packed-next : (ns : List ℕ) (n : ℕ) (work : List ℕ) → packedLast G entry (ns ++ n ∷ []) work ≡ packed G entry n (packedLast G entry ns work)
+  packed-next ns n work = packed-end ns n work ∙ sym (packed-over n ns work)
 
-  pub length-last : (t n : ℕ) (work : List ℕ) → packs G ≤ length work → length (packedLast G entry t n work) ≡ length work
-  length-last t zero work h = ap length (packed-none t work)
-  length-last t (suc n) work h = ap length (packed-some t n work) ∙ length-packed (t + n) work h
+  pub length-last : (ns : List ℕ) (work : List ℕ) → packs G ≤ length work → length (packedLast G entry ns work) ≡ length work
+  unfolding packedLast
+  length-last [] work h = refl
+  length-last (n ∷ []) work h = length-packed n work h
+  length-last (l ∷ m ∷ ns) work h = length-last (m ∷ ns) work h

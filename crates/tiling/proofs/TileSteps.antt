@@ -12,7 +12,7 @@ use Rattle.words.specs.Words.{word}
 use Rattle.words.specs.Loops.{each, put}
 use Rattle.words.specs.Sums.{sumTo}
 use Rattle.words.proofs.Modular.{word-add-right, word-mul-right}
-use Rattle.words.proofs.Store.{each-ext}
+use Rattle.words.proofs.Loops.{each-ext}
 use Rattle.words.proofs.Sums.{sumTo-ext}
 use Rattle.words.specs.Fronts.{front}
 use Rattle.words.proofs.Fronts.{front-ext}
@@ -34,7 +34,8 @@ use Rattle.multiply.specs.MultiplyNeeds.{PlacesIn}
 use Rattle.multiply.specs.Stored.{tileSum}
 use Rattle.tiles.specs.Cut.{Cut, width, total, batchOf, columnOf, panelOf, rowOf}
 use Rattle.tiles.specs.Grid.{Fits}
-use Rattle.tiles.specs.Setting.{Setting, panelSum, addPanel, tileAt, tileStep}
+use Rattle.tiles.specs.TileWalk.{tileAt, visitTile}
+use Rattle.tiles.specs.Setting.{Setting, panelSum, addPanel, tileStep}
 use Rattle.tiles.proofs.Cuts.{width-le, place-in, panel-width}
 use Rattle.tiles.proofs.Sizes.{tile-in}
 use Rattle.tile_blocks.specs.declared.tile_offsets.TileOffsets.{TileOffsets}
@@ -174,7 +175,7 @@ module _ {p : Plan} {G : Cut} {n : ℕ} {s : TileOffsets} (t : TileOffsetsOf p G
     store-added r c h l xs = rw (place-d r c h l) (ap (set xs _) (word-added r c (rw (t .blocks left .used D) at h) (rw (t .blocks right .used D) at l) _))
 
     pub multiplied : (d : List ℕ) {x : List ℕ} → x ≡ each (s .cols .d .count) (λ c. each (s .rows .d .count) (stores c)) d → x ≡ tileStep S n d
-    unfolding tileStep tileAt planSetting
+    unfolding visitTile tileAt planSetting
     multiplied d q =
         q ∙ each-ext (s .cols .d .count) (λ c l. each-ext (s .rows .d .count) (λ r h. store-added r c h l)) d
         ∙ rw (t .blocks right .used D, t .blocks left .used D)

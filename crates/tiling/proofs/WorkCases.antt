@@ -9,14 +9,15 @@ use Rattle.meaning.specs.Index.{index}
 use Rattle.meaning.specs.Meaning.{entry}
 use Rattle.pack.specs.Packed.{packedWord}
 use Rattle.tiles.specs.Cut.{blocks, width, MB, NB, KB, batchOf, columnOf, panelOf, rowOf}
-use Rattle.tile_blocks.specs.ContractionInTiles.{entryAt}
-use Rattle.tiling.specs.Work.{packedBlock, packed, packedLast, entryOn, workAfter}
+use Rattle.tile_blocks.specs.ContractionInTiles.{entryOn}
+use Rattle.tiling.specs.Work.{packedBlock, packed, packedLast, workAfter}
 use Rattle.tiling.specs.WorkCases.{WorkCases}
 
 pub work-cases : WorkCases
-unfolding axesOf layoutOf axes address labels together groupOf inGroup group index entry packedWord blocks width MB NB KB batchOf columnOf panelOf rowOf entryAt packedBlock packed packedLast entryOn workAfter
+unfolding axesOf layoutOf axes address labels together groupOf inGroup group index entry packedWord blocks width MB NB KB batchOf columnOf panelOf rowOf packedBlock packed packedLast entryOn workAfter
 work-cases =
     record {
       edge = refl;
       none-run = refl;
+      last-listed = refl;
     }

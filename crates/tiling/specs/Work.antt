@@ -1,9 +1,7 @@
 -- The work slice: the packed blocks of the last tile run, and the rest unchanged.
 -- Assumes nothing.
-use Prim.Native.Nat.{ℕ, _+_, _-_, _*_}
-use mathlib.Core.Bool.{cond}
-use mathlib.Core.List.{List, _++_}
-use lib.Dec.{eqb}
+use Prim.Native.Nat.{ℕ, _+_, _*_}
+use mathlib.Core.List.{List, [], _∷_, _++_}
 use lib.ListN.{drop}
 use Rattle.words.specs.Lists.{tabulate}
 use Rattle.contraction.specs.declared.contraction.Contraction.{Contraction}
@@ -11,8 +9,8 @@ use Rattle.meaning.specs.Meaning.{Slices}
 use Rattle.pack.specs.Packed.{packedWord}
 use Rattle.tiles.specs.declared.grid.Sizes.{Sizes}
 use Rattle.tiles.specs.Cut.{Cut, width, batchOf, panelOf}
-use Rattle.tile_blocks.specs.Side.{Side, left, right, both, tensorOn, sizeOn, tileOn, blockOn}
-use Rattle.tile_blocks.specs.ContractionInTiles.{cutOf, entryAt}
+use Rattle.tile_blocks.specs.Side.{Side, left, right, sizeOn, tileOn, blockOn}
+use Rattle.tile_blocks.specs.ContractionInTiles.{cutOf, entryOn}
 
 module _ (G : Cut) (entry : Side → ℕ → ℕ → ℕ → ℕ) where
   open Cut G using (K, rows, cols, depth)
@@ -28,14 +26,12 @@ module _ (G : Cut) (entry : Side → ℕ → ℕ → ℕ → ℕ) where
   unfoldable pub packed : ℕ → List ℕ → List ℕ
   packed n work = tabulate (rows * depth) (packedBlock left n) ++ (tabulate (cols * depth) (packedBlock right n) ++ drop (rows * depth + cols * depth) work)
 
-  -- after the tiles t, t + 1, .., n of them: that of the last; with no tile run, all as it was
-  unfoldable pub packedLast : ℕ → ℕ → List ℕ → List ℕ
-  packedLast t n work = cond (eqb n 0) work (packed (t + n - 1) work)
+  -- after the tiles of a list: the blocks of the last one; with no tile run, all as it was
+  unfoldable pub packedLast : List ℕ → List ℕ → List ℕ
+  packedLast [] work = work
+  packedLast (n ∷ []) work = packed n work
+  packedLast (n ∷ m ∷ ns) work = packedLast (m ∷ ns) work
 
--- a side's entry at a batch count, a count m of its group and a depth count; A lacks the column labels and B the row labels, so that any count of those, here
--- 0, gives the same
-unfoldable pub entryOn : Contraction → Slices → Side → ℕ → ℕ → ℕ → ℕ
-entryOn c w s h m k = entryAt c w (tensorOn s) h (both m 0 s) (both 0 m s) k
-
-unfoldable pub workAfter : Contraction → Sizes → Slices → ℕ → ℕ → List ℕ → List ℕ
+-- the work slice after the tiles of a list
+unfoldable pub workAfter : Contraction → Sizes → Slices → List ℕ → List ℕ → List ℕ
 workAfter c z w = packedLast (cutOf c z) (entryOn c w)

@@ -37,5 +37,7 @@ before = 99 ∷ 99 ∷ 99 ∷ 99 ∷ 99 ∷ 99 ∷ 99 ∷ 99 ∷ 99 ∷ 99 ∷ 9
 pub record WorkCases : Type 0 where
   -- "the last tile's A block first, row r and depth d at r + rows × d, unscaled. The packed B block starts right after it, at rows × depth, column c
   -- and depth d at c + cols × d. Places past the edge hold 0. The rest is unchanged, and with no tile run, all of it."
-  pub edge : workAfter product sizes slices 0 4 before ≡ 9 ∷ 0 ∷ 0 ∷ 0 ∷ 13 ∷ 16 ∷ 0 ∷ 0 ∷ 0 ∷ 0 ∷ 99 ∷ []
-  pub none-run : workAfter product sizes slices 4 0 before ≡ before
+  pub edge : workAfter product sizes slices (0 ∷ 1 ∷ 2 ∷ 3 ∷ []) before ≡ 9 ∷ 0 ∷ 0 ∷ 0 ∷ 13 ∷ 16 ∷ 0 ∷ 0 ∷ 0 ∷ 0 ∷ 99 ∷ []
+  pub none-run : workAfter product sizes slices [] before ≡ before
+  -- the last tile is the last of the list, whatever its number: here tile 0, of row counts 0 and 1, both columns and depth counts 0 and 1
+  pub last-listed : workAfter product sizes slices (1 ∷ 3 ∷ 2 ∷ 0 ∷ []) before ≡ 1 ∷ 2 ∷ 4 ∷ 5 ∷ 11 ∷ 14 ∷ 0 ∷ 12 ∷ 15 ∷ 0 ∷ 99 ∷ []

@@ -30,7 +30,7 @@ pub fn run_tiles(
     ensures { λ r. ⌜ (r ≡ done + length (tilesFrom done count))
         × (now (d .exit)
         ≡ walk (planSetting p (cutIn g) alpha beta (now (a .entry)) (now (b .entry))) (tilesFrom done count) (now (d .entry)))
-        × (now (work .exit) ≡ packedLast (cutIn g) (readIn p (now (a .entry)) (now (b .entry))) done count (now (work .entry))) ⌝ }
+        × (now (work .exit) ≡ packedLast (cutIn g) (readIn p (now (a .entry)) (now (b .entry))) (tilesFrom done count) (now (work .entry))) ⌝ }
 {
     let end = done + count;
     let mut t = done;

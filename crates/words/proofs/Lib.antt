@@ -2,6 +2,7 @@ pub mod Filled
 pub mod Fronts
 pub mod Lanes
 pub mod Lists
+pub mod Loops
 pub mod Modular
 pub mod Store
 pub mod Strides

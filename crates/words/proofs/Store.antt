@@ -3,13 +3,14 @@
 use mathlib.Core.Path.{_≡_, refl, sym, ap, _∙_, subst}
 use mathlib.Core.Logic.{_≢_, _⊎_, inl, inr}
 use mathlib.Core.List.{List}
-use Prim.Native.Nat.{ℕ, zero, suc, _+_, _<_}
-use native.Mathlib.Nat.{not-suc-le-zero, add-zero, add-suc}
+use Prim.Native.Nat.{ℕ, zero, suc, _<_}
+use native.Mathlib.Nat.{not-suc-le-zero}
 use native.Mathlib.Decide.{decLt}
 use native.Mathlib.Omega.{arith}
 use lib.ListN.{length, getD, length-set}
 use lib.Seq.{getD-set-same, getD-set-other, ext-getD}
 use Rattle.words.specs.Loops.{each, put, Within}
+use Rattle.words.proofs.Loops.{each-keeps}
 
 -- E is D with the word w of each index q that P has become g q w, and all else as it was
 module _ {Ix : Type 0} (at : Ix → ℕ) (In : Ix → Type 0) where
@@ -45,27 +46,13 @@ module _ {Ix : Type 0} (at : Ix → ℕ) (In : Ix → Type 0) where
       pick x (yes w) = subst (λ (y : ℕ). getD E y 0 ≡ getD F y 0) (w .3) (c .hit (w .0) (w .1) (w .2) ∙ sym (d .hit (w .0) (w .1) (w .2)))
       pick x (no f) = let off : (q : Ix) → In q → P q → at q ≢ x = λ q k p e. f (q, k, p, e) in c .miss x off ∙ sym (d .miss x off)
 
--- turns that do the same
-pub each-ext : {f g : ℕ → List ℕ → List ℕ} (n : ℕ) → ((k : ℕ) → k < n → (D : List ℕ) → f k D ≡ g k D) → (D : List ℕ) → each n f D ≡ each n g D
-unfolding each
-each-ext zero e D = refl
-each-ext {f} {g} (suc n) e D = ap (f n) (each-ext {f = f} {g = g} n (λ k h. e k (omega arith)) D) ∙ e n (omega arith) (each n g D)
-
--- a loop in two parts
-pub each-add : (m n : ℕ) (body : ℕ → List ℕ → List ℕ) (D : List ℕ) → each (m + n) body D ≡ each n (λ k. body (m + k)) (each m body D)
-unfolding each
-each-add m zero body D = ap (λ (k : ℕ). each k body D) (add-zero m)
-each-add m (suc n) body D = ap (λ (k : ℕ). each k body D) (add-suc m n) ∙ ap (body (m + n)) (each-add m n body D)
-
 -- stores keep the length
 pub length-put : (g : ℕ → ℕ) (x : ℕ) (D : List ℕ) → length (put g x D) ≡ length D
 unfolding put
 length-put g x D = length-set D x (g (getD D x 0))
 
 pub length-each : (n : ℕ) (body : ℕ → List ℕ → List ℕ) → ((k : ℕ) (D : List ℕ) → length (body k D) ≡ length D) → (D : List ℕ) → length (each n body D) ≡ length D
-unfolding each
-length-each zero body keep D = refl
-length-each (suc n) body keep D = keep n (each n body D) ∙ length-each n body keep D
+length-each n body keep D = each-keeps (λ E. length E ≡ length D) body n (λ k h E e. keep k E ∙ e) D refl
 
 module _ {Ix : Type 0} (at : Ix → ℕ) (In : Ix → Type 0) (inj : (q r : Ix) → In q → In r → at q ≡ at r → q ≡ r) where
   -- an index that P does not have keeps its word
@@ -124,23 +111,6 @@ module _ {Ix : Type 0} (at : Ix → ℕ) (In : Ix → Type 0) (inj : (q r : Ix) 
           split : Dec (w .0 < n) → ((k : ℕ) × (k < n) × P k q) ⊎ P n q
           split (yes b) = inl (w .0, b, w .2)
           split (no f) = let e : w .0 ≡ n = omega (arith, w .1) in inr (subst (λ (k : ℕ). P k q) e (w .2))
-
-  -- a change over all of P, and then one over a part of it
-  pub over-changes : {P Q : Ix → Type 0} {f g k : Ix → ℕ → ℕ} {D E F : List ℕ}
-      → ((q : Ix) → In q → Dec (Q q)) → ((q : Ix) → Q q → P q)
-      → ((q : Ix) → In q → Q q → (w : ℕ) → k q (g q w) ≡ f q w)
-      → ((q : Ix) → In q → ¬ (Q q) → (w : ℕ) → g q w ≡ f q w)
-      → Changes at In P g D E → Changes at In Q k E F → Changes at In P f D F
-  over-changes {P} {Q} {f} {g} {k} {D} {E} {F} dec sub new same c d =
-      record {
-        len = d .len ∙ c .len;
-        hit = λ q i p. hits q i p (dec q i);
-        miss = λ x off. d .miss x (λ q i p. off q i (sub q p)) ∙ c .miss x off;
-      }
-    where
-      hits : (q : Ix) → In q → P q → Dec (Q q) → getD F (at q) 0 ≡ f q (getD D (at q) 0)
-      hits q i p (yes z) = d .hit q i z ∙ ap (k q) (c .hit q i p) ∙ new q i z (getD D (at q) 0)
-      hits q i p (no z) = keeps d q i z ∙ c .hit q i p ∙ same q i z (getD D (at q) 0)
 
 -- a loop that makes g k of the word at the place of each count k
 module _ (place : ℕ → ℕ) (g : ℕ → ℕ → ℕ) where

@@ -1,12 +1,14 @@
 -- Lists made of counts: their lengths and members, one member more at the end, and what is left from a place on.
 -- Assumes nothing.
 use mathlib.Core.Path.{_≡_, refl, ap, sym, _∙_}
-use mathlib.Core.List.{List, [], _∷_, _++_, map}
+use mathlib.Core.List.{List, [], _∷_, _++_, map, append-assoc, append-nil}
 use Prim.Native.Nat.{ℕ, zero, suc, _+_, _-_, _<_, _≤_}
+use native.Mathlib.Nat.{add-zero, add-suc}
 use native.Mathlib.Numerals.{add-one}
 use native.Mathlib.Omega.{arith}
 use lib.ListN.{length, getD, set, drop}
 use lib.Seq.{ext-getD, getD-set-same, getD-set-other}
+use Rattle.words.specs.Sums.{All}
 use Rattle.words.specs.Lists.{tabulate, firstOf}
 
 module _ {X : Type 0} where
@@ -27,6 +29,16 @@ module _ {X : Type 0} where
   pub tabulate-suc : (n : ℕ) (f : ℕ → X) → tabulate (suc n) f ≡ tabulate n f ++ f n ∷ []
   tabulate-suc zero f = refl
   tabulate-suc (suc n) f = ap (λ (l : List X). f 0 ∷ l) (tabulate-suc n (λ i. f (suc i)))
+
+  -- in two parts
+  pub tabulate-add : (m n : ℕ) (f : ℕ → X) → tabulate (m + n) f ≡ tabulate m f ++ tabulate n (λ i. f (m + i))
+  tabulate-add m zero f = rw (add-zero m, append-nil)
+  tabulate-add m (suc n) f =
+      rw (add-suc m n, tabulate-suc (m + n) f, tabulate-add m n f, append-assoc) (ap (λ (l : List X). tabulate m f ++ l) (sym (tabulate-suc n (λ i. f (m + i)))))
+
+  pub all-tabulate : (P : X → Type 0) (n : ℕ) (f : ℕ → X) → ((i : ℕ) → i < n → P (f i)) → All P (tabulate n f)
+  all-tabulate P zero f h = tt
+  all-tabulate P (suc n) f h = (h 0 (omega arith), all-tabulate P n (λ i. f (suc i)) (λ i k. h (suc i) (omega arith)))
 
   -- what is left from a place on: nothing at the end, and one member more at the place before
   left-none : (n : ℕ) (f : ℕ → X) → drop n (tabulate n f) ≡ []

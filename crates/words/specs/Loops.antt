@@ -1,13 +1,13 @@
--- A loop over counts that changes a list of words, and stores.
+-- A loop over counts, on any state, and stores.
 -- Assumes nothing.
 use Prim.Native.Nat.{ℕ, zero, suc, _<_}
 use mathlib.Core.List.{List}
 use lib.ListN.{getD, set}
 
--- `for k in 0..n { D = body k D }`
-unfoldable pub each : ℕ → (ℕ → List ℕ → List ℕ) → List ℕ → List ℕ
-each zero body D = D
-each (suc n) body D = body n (each n body D)
+-- `for k in 0..n { s = body k s }`
+unfoldable pub each : {S : Type 0} → ℕ → (ℕ → S → S) → S → S
+each zero body s = s
+each (suc n) body s = body n (each n body s)
 
 -- the word at `at` becomes g of it
 unfoldable pub put : (ℕ → ℕ) → ℕ → List ℕ → List ℕ

@@ -11,7 +11,7 @@ use borrow.Author.Needs.{needs}
 use lib.ListN.{length}
 use Rattle.words.specs.Words.{wordOf}
 use Rattle.words.specs.Loops.{each}
-use Rattle.words.proofs.Store.{each-ext, each-add}
+use Rattle.words.proofs.Loops.{each-ext, each-add}
 use Rattle.contraction.specs.Operands.{Operand, D}
 use Rattle.groups.specs.Groups.{Label, size}
 use Rattle.groups.specs.Held.{labelsIn}

@@ -14,7 +14,7 @@ use mir.Val.{Fits}
 use lib.Dec.{leb, lit<}
 use lib.ListN.{length}
 use Rattle.words.specs.Loops.{each}
-use Rattle.words.proofs.Store.{each-add}
+use Rattle.words.proofs.Loops.{each-add}
 use Rattle.limits.specs.Limits.{blockLimit}
 use Rattle.block.specs.Places.{placeOf}
 use Rattle.multiply.specs.Stored.{columnStored}

@@ -24,6 +24,7 @@ use Rattle.tiles.specs.declared.grid.Grid.{Grid}
 use Rattle.tiles.specs.Cut.{Cut, total}
 use Rattle.tiles.specs.Grid.{cutIn}
 use Rattle.tiles.specs.Setting.{walk, tilesFrom}
+use Rattle.tiles.proofs.Visits.{tiles-below}
 use Rattle.tile_blocks.specs.ContractionInTiles.{cutOf, setting}
 use Rattle.tile_blocks.specs.Planned.{GridOf, Clear, readIn, planSetting}
 use Rattle.tile_questions.specs.TileQuestions.{sizeQuestion, roomQuestion, doneQuestion}
@@ -84,20 +85,20 @@ module _ (c : Contraction) (z : Sizes) (a b d : List ℕ) {n : ℕ} (e : n ≡ r
 
       all-ran : {r : ℕ} {d′ work′ : List ℕ} → r ≡ t + length (tilesFrom t count)
           → d′ ≡ walk (planSetting p (cutIn g) (c .alpha) (c .beta) a b) (tilesFrom t count) d
-          → work′ ≡ packedLast (cutIn g) (readIn p a b) t count work
+          → work′ ≡ packedLast (cutIn g) (readIn p a b) (tilesFrom t count) work
           → tileCallOf (ran r (eqb r (g .total))) d′ work′ ≡ tileCall c z (three a b d) work t budget
       unfolding ranCall
       all-ran {r} {d′} {work′} er ed ew =
           let w = three a b d in
           let ten = none-refused c z a b d e y in
           let ok = accepted c z w ten .0 in
-          let below : t + count ≤ total (cutOf c z) = rw (sym cut) in-total in
+          let below = tiles-below (cutOf c z) t count (rw (sym cut) in-total) in
           let whole : g .total ≡ total (cutOf c z) = o .0 .counted .total ∙ ap total cut in
           let done : r ≡ t + count = er ∙ ap (λ (i : ℕ). t + i) (tiles-counted t count) in
           let words : d′ ≡ walk (setting c z w) (tilesFrom t count) d =
-          ed ∙ ap (λ (G : Cut). walk (planSetting p G (c .alpha) (c .beta) a b) (tilesFrom t count) d) cut ∙ walk-agrees c z w ok p q t count below d in
-          let packs : work′ ≡ workAfter c z w t count work =
-          ew ∙ ap (λ (G : Cut). packedLast G (readIn p a b) t count work) cut ∙ work-agrees c z w ok p q t count below work in
+          ed ∙ ap (λ (G : Cut). walk (planSetting p G (c .alpha) (c .beta) a b) (tilesFrom t count) d) cut ∙ walk-agrees c z w ok p q (tilesFrom t count) below d in
+          let packs : work′ ≡ workAfter c z w (tilesFrom t count) work =
+          ew ∙ ap (λ (G : Cut). packedLast G (readIn p a b) (tilesFrom t count) work) cut ∙ work-agrees c z w ok p q (tilesFrom t count) below work in
           rw (done, words, packs, m, whole) (tile-ran c z w work t budget ten late x)
 
 of-requires : tie.Need-of-requires

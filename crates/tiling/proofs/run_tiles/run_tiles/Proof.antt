@@ -2,7 +2,7 @@
 -- and the work slice holds the blocks of the last one. A turn runs tile t. The measure is how many are left.
 -- Assumes nothing.
 use mathlib.Core.Path.{_≡_, ap, sym, _∙_, subst}
-use mathlib.Core.List.{List}
+use mathlib.Core.List.{List, [], _∷_, _++_}
 use Prim.Native.Nat.{ℕ, suc, _+_, _-_, _≤_}
 use native.Mathlib.Omega.{arith}
 use lib.ListN.{length}
@@ -10,12 +10,14 @@ use Rattle.words.proofs.Tabulate.{length-tabulate}
 use Rattle.plan.specs.declared.plan.Plan.{Plan}
 use Rattle.tiles.specs.Cut.{Cut}
 use Rattle.tiles.specs.Grid.{cutIn}
-use Rattle.tiles.specs.Setting.{Setting, tileStep, walk, tilesFrom}
+use Rattle.tiles.specs.TileWalk.{walkTiles}
+use Rattle.tiles.specs.Setting.{Setting, visit, tileStep, walk, tilesFrom}
 use Rattle.tiles.proofs.Sizes.{sumOf-small}
-use Rattle.tiles.proofs.Closed.{length-walk, walk-next}
+use Rattle.tiles.proofs.Visits.{tiles-next, walk-next}
+use Rattle.tiles.proofs.Closed.{length-walk}
 use Rattle.tile_blocks.specs.Planned.{readIn, planSetting, Clear}
 use Rattle.tiling.specs.Work.{packed, packedLast}
-use Rattle.tiling.proofs.PackedWork.{packs, packed-none, packed-next, length-last}
+use Rattle.tiling.proofs.PackedWork.{packs, packed-next, length-last}
 use Rattle.tiling.proofs.run_tiles.run_tiles.Statement.{statement}
 use Rattle.tiling.proofs.run_tiles.run_tiles.Tie as tie
 
@@ -24,43 +26,37 @@ module _ (p : Plan) (G : Cut) (alpha beta : ℕ) (a b : List ℕ) (done : ℕ) (
   abbrev S : Setting
   S = planSetting p G alpha beta a b
 
-  abbrev blocksOf : ℕ → List ℕ
-  blocksOf n = packedLast G (readIn p a b) done n work₀
-
   record Run (t : ℕ) (d work : List ℕ) : Type 0 where
     from : done ≤ t
     words : d ≡ walk S (tilesFrom done (t - done)) d₀
-    blocks : work ≡ blocksOf (t - done)
+    blocks : work ≡ packedLast G (readIn p a b) (tilesFrom done (t - done)) work₀
 
   same-d : {t : ℕ} {d work : List ℕ} → Run t d work → length d ≡ length d₀
   same-d {t} r = ap length (r .words) ∙ length-walk S (tilesFrom done (t - done)) d₀
 
   same-work : {t : ℕ} {d work : List ℕ} → packs G ≤ length work₀ → Run t d work → length work ≡ length work₀
-  same-work {t} h r = ap length (r .blocks) ∙ length-last G (readIn p a b) done (t - done) work₀ h
+  same-work {t} h r = ap length (r .blocks) ∙ length-last G (readIn p a b) (tilesFrom done (t - done)) work₀ h
 
   none : Run done d₀ work₀
-  unfolding tilesFrom walk
+  unfolding tilesFrom walkTiles packedLast
   none =
       let e : done - done ≡ 0 = omega arith in
-      record { from = omega arith; words = rw e; blocks = rw e (sym (packed-none G (readIn p a b) done work₀)) }
+      record { from = omega arith; words = rw e; blocks = rw e }
 
   next : {t : ℕ} {d work d′ work′ : List ℕ} → Run t d work → d′ ≡ tileStep S t d → work′ ≡ packed G (readIn p a b) t work → Run (t + 1) d′ work′
   next {t} r e f =
       let n = t - done in
       let h : done + n ≡ t = omega (arith, r .from) in
-      let k : suc n ≡ t + 1 - done = omega (arith, r .from) in
+      let k : t + 1 - done ≡ suc n = omega (arith, r .from) in
+      let more : tilesFrom done (t + 1 - done) ≡ tilesFrom done n ++ t ∷ []
+      = ap (tilesFrom done) k ∙ tiles-next done n ∙ ap (λ (m : ℕ). tilesFrom done n ++ m ∷ []) h in
       record {
         from = omega (arith, r .from);
-        words =
-            e ∙ ap (tileStep S t) (r .words)
-            ∙ ap (λ (m : ℕ). tileStep S m (walk S (tilesFrom done n) d₀)) (sym h)
-            ∙ sym (walk-next S done n d₀)
-            ∙ ap (λ (m : ℕ). walk S (tilesFrom done m) d₀) k;
+        words = e ∙ ap (tileStep S t) (r .words) ∙ sym (walk-next (S .cut) (visit S) (tilesFrom done n) t d₀) ∙ ap (λ (ns : List ℕ). walk S ns d₀) (sym more);
         blocks =
             f ∙ ap (packed G (readIn p a b) t) (r .blocks)
-            ∙ ap (λ (m : ℕ). packed G (readIn p a b) m (blocksOf n)) (sym h)
-            ∙ packed-next G (readIn p a b) done n work₀
-            ∙ ap blocksOf k;
+            ∙ sym (packed-next G (readIn p a b) (tilesFrom done n) t work₀)
+            ∙ ap (λ (ns : List ℕ). packedLast G (readIn p a b) ns work₀) (sym more);
       }
 
 abbrev Inv-loop : tie.InvT-loop

@@ -1,0 +1,44 @@
+-- Laws of a loop over counts, on any state. What every turn keeps between two states, the loop keeps; with one state or with equal ones that says what a loop
+-- keeps, what it makes of equal turns, and that idle turns may be left out.
+-- Assumes nothing.
+use mathlib.Core.Path.{_≡_, refl, ap, _∙_}
+use mathlib.Core.Logic.{_≢_}
+use Prim.Native.Nat.{ℕ, zero, suc, _+_, _<_}
+use native.Mathlib.Nat.{add-zero, add-suc}
+use native.Mathlib.Decide.{ℕ-discrete}
+use native.Mathlib.Omega.{arith}
+use Rattle.words.specs.Loops.{each}
+
+-- two states side by side
+pub each-relates : {S S′ : Type 0} (R : S → S′ → Type 0) (f : ℕ → S → S) (g : ℕ → S′ → S′) (n : ℕ)
+    → ((k : ℕ) → k < n → (s : S) (s′ : S′) → R s s′ → R (f k s) (g k s′)) → (s : S) (s′ : S′) → R s s′ → R (each n f s) (each n g s′)
+unfolding each
+each-relates R f g zero turn s s′ r = r
+each-relates R f g (suc n) turn s s′ r = turn n (omega arith) (each n f s) (each n g s′) (each-relates R f g n (λ k h. turn k (omega arith)) s s′ r)
+
+module _ {S : Type 0} where
+  pub each-keeps : (P : S → Type 0) (f : ℕ → S → S) (n : ℕ) → ((k : ℕ) → k < n → (s : S) → P s → P (f k s)) → (s : S) → P s → P (each n f s)
+  each-keeps P f n turn s = each-relates (λ s (u : Unit {0}). P s) f (λ k u. u) n (λ k h s u. turn k h s) s tt
+
+  -- turns that do the same
+  pub each-ext : {f g : ℕ → S → S} (n : ℕ) → ((k : ℕ) → k < n → (s : S) → f k s ≡ g k s) → (s : S) → each n f s ≡ each n g s
+  each-ext {f} {g} n same s = each-relates _≡_ f g n (λ k h s s′ e. ap (f k) e ∙ same k h s′) s s refl
+
+  -- a loop in two parts
+  pub each-add : (m n : ℕ) (body : ℕ → S → S) (s : S) → each (m + n) body s ≡ each n (λ k. body (m + k)) (each m body s)
+  unfolding each
+  each-add m zero body s = ap (λ (k : ℕ). each k body s) (add-zero m)
+  each-add m (suc n) body s = ap (λ (k : ℕ). each k body s) (add-suc m n) ∙ ap (body (m + n)) (each-add m n body s)
+
+  -- turns that do nothing, and all but one that do nothing
+  pub each-none : (f : ℕ → S → S) (n : ℕ) → ((k : ℕ) → k < n → (s : S) → f k s ≡ s) → (s : S) → each n f s ≡ s
+  each-none f n idle s = each-keeps (λ s′. s′ ≡ s) f n (λ k h s′ e. idle k h s′ ∙ e) s refl
+
+  pub each-one : (f : ℕ → S → S) (n m : ℕ) → m < n → ((k : ℕ) → k < n → k ≢ m → (s : S) → f k s ≡ s) → (s : S) → each n f s ≡ f m s
+  unfolding each
+  each-one f zero m b idle s = absurd (omega arith)
+  each-one f (suc n) m b idle s = go (ℕ-discrete n m) (λ l. each-one f n m l (λ k h. idle k (omega arith)) s)
+    where
+      go : Dec (n ≡ m) → (m < n → each n f s ≡ f m s) → f n (each n f s) ≡ f m s
+      go (yes e) r = ap (f n) (each-none f n (λ k h. idle k (omega arith) (λ z. omega arith)) s) ∙ ap (λ (k : ℕ). f k s) e
+      go (no ne) r = idle n (omega arith) ne (each n f s) ∙ r (omega arith)
