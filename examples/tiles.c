@@ -13,11 +13,11 @@ int main(void)
     nezgrak_layout kj = nezgrak_layout_of("kj", (uint32_t[]){3, 2}, (int32_t[]){1, 3}, 2, 0);
     nezgrak_layout ij = nezgrak_layout_of("ij", (uint32_t[]){2, 2}, (int32_t[]){1, 2}, 2, 0);
     for (int call = 0; call < 2 && !refused; call++) {
-        refused = nezgrak_run_tiles_layouts(
+        refused = nezgrak_run_tiles(
             &ik, a, 6, &kj, b, 6, &ij, d, 4, 1, 2, ROWS, COLS, DEPTH, work, WORK, done, budgets[call], &done, &complete);
         printf("%u tiles done%s:", (unsigned)done, complete ? ", complete" : "");
         for (unsigned n = 0; n < 4 && !refused; n++) {
-            refused = nezgrak_state_layouts(
+            refused = nezgrak_state(
                 &ik, a, 6, &kj, b, 6, &ij, d, 4, 1, 2, ROWS, COLS, DEPTH, done, 0, n % 2, n / 2, &state);
             printf(" %u %s", d[n], state == NEZGRAK_OLD ? "old" : state == NEZGRAK_PART ? "part" : "final");
         }

@@ -1,9 +1,4 @@
-/* Nezgrak: a tensor contraction engine for 32-bit words, for C11 and C++11. Link libnezgrak.a (x86-64).
- *
- * A tensor is a slice of words that the caller lends, with a layout: up to 8 letters (its labels), an extent and a signed stride
- * for each, and a base. The entry at index (i, j, ..) is the word at base + i * stride + j * stride' + .. of the slice. A letter
- * that a tensor repeats is one label whose stride is the sum of its strides. No letters means one entry, at the base.
- */
+/* Nezgrak: a tensor contraction engine for 32-bit words, for C11 and C++11. Link libnezgrak.a (x86-64). */
 #ifndef NEZGRAK_H
 #define NEZGRAK_H
 
@@ -13,6 +8,53 @@
 #ifdef __cplusplus
 extern "C" {
 #endif
+
+/* A tensor is a slice of words that the caller lends, with a layout: up to 8 letters (its labels), an extent and a signed stride
+ * for each, and a base. The entry at index (i, j, ..) is the word at base + i * stride + j * stride' + .. of the slice. A letter
+ * that a tensor repeats is one label whose stride is the sum of its strides. No letters means one entry, at the base.
+ *
+ * Any 28 words can be handed in, and a call asks its questions of them. Words past a count mean nothing. The three counts of a
+ * sound layout are equal (question 2) and at most 8 (question 1). A letter is its ASCII code; a word above 255 is read as letter 0,
+ * which question 3 refuses.
+ */
+typedef struct nezgrak_layout {
+    uint32_t letters[8];
+    uint32_t extents[8];
+    int32_t strides[8];
+    uint32_t letter_count;
+    uint32_t extent_count;
+    uint32_t stride_count;
+    uint32_t base;
+} nezgrak_layout;
+
+#ifdef __cplusplus
+static_assert(sizeof(nezgrak_layout) == 28 * sizeof(uint32_t), "a layout has 28 words");
+#else
+_Static_assert(sizeof(nezgrak_layout) == 28 * sizeof(uint32_t), "a layout has 28 words");
+#endif
+
+/* The layout of `rank` letters, extents and strides, which are copied. */
+static inline nezgrak_layout nezgrak_layout_of(
+    const char *letters, const uint32_t *extents, const int32_t *strides, uint32_t rank, uint32_t base)
+{
+    nezgrak_layout layout;
+    for (uint32_t i = 0; i < 8; i++) {
+        layout.letters[i] = i < rank ? (unsigned char)letters[i] : 0;
+        layout.extents[i] = i < rank ? extents[i] : 0;
+        layout.strides[i] = i < rank ? strides[i] : 0;
+    }
+    layout.letter_count = rank;
+    layout.extent_count = rank;
+    layout.stride_count = rank;
+    layout.base = base;
+    return layout;
+}
+
+/* The layout without letters: one entry, at the base. */
+static inline nezgrak_layout nezgrak_layout_scalar(uint32_t base)
+{
+    return nezgrak_layout_of(NULL, NULL, NULL, 0, base);
+}
 
 /* Contracts A and B into D. Each word that D's layout addresses becomes
  *
@@ -38,27 +80,15 @@ extern "C" {
  *
  * The caller has to see to this, and to nothing else:
  *
- *   - Each pointer is followed by a count, and points to that many elements that can be read, for d also written. It is
- *     aligned for its type and not null, also where the count is 0.
- *   - d shares no word with a, b or an array of a layout. Those may share words with each other.
+ *   - Each pointer to words is followed by a count, and points to that many words that can be read, for d also written. It is
+ *     aligned and not null, also where the count is 0. Each layout can be read, and is aligned and not null.
+ *   - d shares no word with a, b or a layout. Those may share words with each other: one layout can serve for several tensors.
  *   - During the call no other thread writes to any of them, or reads d.
  */
 uint32_t nezgrak_contract(
-    const uint8_t *a_letters, size_t a_letter_count,
-    const uint32_t *a_extents, size_t a_extent_count,
-    const int32_t *a_strides, size_t a_stride_count,
-    uint32_t a_base,
-    const uint32_t *a, size_t a_count,
-    const uint8_t *b_letters, size_t b_letter_count,
-    const uint32_t *b_extents, size_t b_extent_count,
-    const int32_t *b_strides, size_t b_stride_count,
-    uint32_t b_base,
-    const uint32_t *b, size_t b_count,
-    const uint8_t *d_letters, size_t d_letter_count,
-    const uint32_t *d_extents, size_t d_extent_count,
-    const int32_t *d_strides, size_t d_stride_count,
-    uint32_t d_base,
-    uint32_t *d, size_t d_count,
+    const nezgrak_layout *a_layout, const uint32_t *a, size_t a_count,
+    const nezgrak_layout *b_layout, const uint32_t *b, size_t b_count,
+    const nezgrak_layout *d_layout, uint32_t *d, size_t d_count,
     uint32_t alpha, uint32_t beta);
 
 /* Runs tiles of the same contraction: the smaller of the budget and what is left after `done` tiles.
@@ -93,21 +123,9 @@ uint32_t nezgrak_contract(
  * with each other or with anything else that is passed, and no other thread reads or writes them during the call.
  */
 uint32_t nezgrak_run_tiles(
-    const uint8_t *a_letters, size_t a_letter_count,
-    const uint32_t *a_extents, size_t a_extent_count,
-    const int32_t *a_strides, size_t a_stride_count,
-    uint32_t a_base,
-    const uint32_t *a, size_t a_count,
-    const uint8_t *b_letters, size_t b_letter_count,
-    const uint32_t *b_extents, size_t b_extent_count,
-    const int32_t *b_strides, size_t b_stride_count,
-    uint32_t b_base,
-    const uint32_t *b, size_t b_count,
-    const uint8_t *d_letters, size_t d_letter_count,
-    const uint32_t *d_extents, size_t d_extent_count,
-    const int32_t *d_strides, size_t d_stride_count,
-    uint32_t d_base,
-    uint32_t *d, size_t d_count,
+    const nezgrak_layout *a_layout, const uint32_t *a, size_t a_count,
+    const nezgrak_layout *b_layout, const uint32_t *b, size_t b_count,
+    const nezgrak_layout *d_layout, uint32_t *d, size_t d_count,
     uint32_t alpha, uint32_t beta,
     uint32_t rows, uint32_t cols, uint32_t depth,
     uint32_t *work, size_t work_count,
@@ -132,21 +150,9 @@ enum {
  * aligned and not null, and shares no word with anything else that is passed; no other thread reads or writes it during the call.
  */
 uint32_t nezgrak_state(
-    const uint8_t *a_letters, size_t a_letter_count,
-    const uint32_t *a_extents, size_t a_extent_count,
-    const int32_t *a_strides, size_t a_stride_count,
-    uint32_t a_base,
-    const uint32_t *a, size_t a_count,
-    const uint8_t *b_letters, size_t b_letter_count,
-    const uint32_t *b_extents, size_t b_extent_count,
-    const int32_t *b_strides, size_t b_stride_count,
-    uint32_t b_base,
-    const uint32_t *b, size_t b_count,
-    const uint8_t *d_letters, size_t d_letter_count,
-    const uint32_t *d_extents, size_t d_extent_count,
-    const int32_t *d_strides, size_t d_stride_count,
-    uint32_t d_base,
-    const uint32_t *d, size_t d_count,
+    const nezgrak_layout *a_layout, const uint32_t *a, size_t a_count,
+    const nezgrak_layout *b_layout, const uint32_t *b, size_t b_count,
+    const nezgrak_layout *d_layout, const uint32_t *d, size_t d_count,
     uint32_t alpha, uint32_t beta,
     uint32_t rows, uint32_t cols, uint32_t depth,
     uint64_t done,
@@ -156,89 +162,5 @@ uint32_t nezgrak_state(
 #ifdef __cplusplus
 }
 #endif
-
-/* A layout as one value. The counts are equal where the layout is sound (question 2). */
-typedef struct nezgrak_layout {
-    const uint8_t *letters;
-    size_t letter_count;
-    const uint32_t *extents;
-    size_t extent_count;
-    const int32_t *strides;
-    size_t stride_count;
-    uint32_t base;
-} nezgrak_layout;
-
-/* The layout of `rank` letters, extents and strides. The arrays stay the caller's. */
-static inline nezgrak_layout nezgrak_layout_of(
-    const char *letters, const uint32_t *extents, const int32_t *strides, size_t rank, uint32_t base)
-{
-    nezgrak_layout layout;
-    layout.letters = (const uint8_t *)letters;
-    layout.letter_count = rank;
-    layout.extents = extents;
-    layout.extent_count = rank;
-    layout.strides = strides;
-    layout.stride_count = rank;
-    layout.base = base;
-    return layout;
-}
-
-/* The layout without letters: one entry, at the base. */
-static inline nezgrak_layout nezgrak_layout_scalar(uint32_t base)
-{
-    static const uint32_t no_extents[1] = {0};
-    static const int32_t no_strides[1] = {0};
-    return nezgrak_layout_of("", no_extents, no_strides, 0, base);
-}
-
-/* nezgrak_contract with each layout as one value. What it returns and what the caller has to see to are the same. */
-static inline uint32_t nezgrak_contract_layouts(
-    const nezgrak_layout *a, const uint32_t *a_words, size_t a_count,
-    const nezgrak_layout *b, const uint32_t *b_words, size_t b_count,
-    const nezgrak_layout *d, uint32_t *d_words, size_t d_count,
-    uint32_t alpha, uint32_t beta)
-{
-    return nezgrak_contract(
-        a->letters, a->letter_count, a->extents, a->extent_count, a->strides, a->stride_count, a->base, a_words, a_count,
-        b->letters, b->letter_count, b->extents, b->extent_count, b->strides, b->stride_count, b->base, b_words, b_count,
-        d->letters, d->letter_count, d->extents, d->extent_count, d->strides, d->stride_count, d->base, d_words, d_count,
-        alpha, beta);
-}
-
-/* nezgrak_run_tiles with each layout as one value. What it returns and what the caller has to see to are the same. */
-static inline uint32_t nezgrak_run_tiles_layouts(
-    const nezgrak_layout *a, const uint32_t *a_words, size_t a_count,
-    const nezgrak_layout *b, const uint32_t *b_words, size_t b_count,
-    const nezgrak_layout *d, uint32_t *d_words, size_t d_count,
-    uint32_t alpha, uint32_t beta,
-    uint32_t rows, uint32_t cols, uint32_t depth,
-    uint32_t *work, size_t work_count,
-    uint64_t done, uint64_t budget,
-    uint64_t *done_after, uint32_t *complete)
-{
-    return nezgrak_run_tiles(
-        a->letters, a->letter_count, a->extents, a->extent_count, a->strides, a->stride_count, a->base, a_words, a_count,
-        b->letters, b->letter_count, b->extents, b->extent_count, b->strides, b->stride_count, b->base, b_words, b_count,
-        d->letters, d->letter_count, d->extents, d->extent_count, d->strides, d->stride_count, d->base, d_words, d_count,
-        alpha, beta, rows, cols, depth, work, work_count, done, budget, done_after, complete);
-}
-
-/* nezgrak_state with each layout as one value. What it returns and what the caller has to see to are the same. */
-static inline uint32_t nezgrak_state_layouts(
-    const nezgrak_layout *a, const uint32_t *a_words, size_t a_count,
-    const nezgrak_layout *b, const uint32_t *b_words, size_t b_count,
-    const nezgrak_layout *d, const uint32_t *d_words, size_t d_count,
-    uint32_t alpha, uint32_t beta,
-    uint32_t rows, uint32_t cols, uint32_t depth,
-    uint64_t done,
-    uint64_t batch, uint64_t row, uint64_t column,
-    uint32_t *state)
-{
-    return nezgrak_state(
-        a->letters, a->letter_count, a->extents, a->extent_count, a->strides, a->stride_count, a->base, a_words, a_count,
-        b->letters, b->letter_count, b->extents, b->extent_count, b->strides, b->stride_count, b->base, b_words, b_count,
-        d->letters, d->letter_count, d->extents, d->extent_count, d->strides, d->stride_count, d->base, d_words, d_count,
-        alpha, beta, rows, cols, depth, done, batch, row, column, state);
-}
 
 #endif

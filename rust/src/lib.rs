@@ -1,22 +1,22 @@
 //! Safe calls of Nezgrak, a tensor contraction engine for 32-bit words.
 //!
 //! The engine is written in Rattle, and each of its functions is proved to do what a short definition says. This crate
-//! links its archive and computes no word itself: it turns slices into the pointers and lengths that the archive takes,
-//! and the number that comes back into a [`Result`].
+//! links its archive and computes no word itself: it turns layouts and slices into the pointers and lengths that the
+//! archive takes, and the number that comes back into a [`Result`].
 //!
-//! A tensor is a slice of words that the caller lends, with a [`Layout`] that says which word is which entry.
-//! [`contract()`] contracts A and B into D at once. [`Tiles`] does it tile by tile, and other work can go on in between;
-//! [`run_tiles()`] and [`state()`] are its two calls, for callers that keep the count of tiles done themselves.
+//! A [`Tensor`] is a slice of words with a [`Layout`] that says which word is which entry. A [`Contraction`] has two that
+//! are read, A and B, and the layout of D, whose words are lent to each call: [`contract()`](Contraction::contract) sums
+//! at once, and [`tiles()`](Contraction::tiles) tile by tile, with time for other work in between.
 //!
 //! ```
-//! use nezgrak::{contract, Layout};
+//! use nezgrak::{Contraction, Layout, Tensor};
 //!
 //! // D(i,j) becomes 1 × the sum over k of A(i,k) × B(k,j), plus 2 × D(i,j).
-//! let a = Layout::new(b"ik", &[2, 3], &[1, 2], 0);
-//! let b = Layout::new(b"kj", &[3, 2], &[1, 3], 0);
+//! let a = Tensor::new(Layout::new(b"ik", &[2, 3], &[1, 2], 0), &[1, 2, 3, 4, 5, 6]);
+//! let b = Tensor::new(Layout::new(b"kj", &[3, 2], &[1, 3], 0), &[1, 0, 2, 0, 1, 1]);
 //! let d = Layout::new(b"ij", &[2, 2], &[1, 2], 0);
 //! let mut words = [100, 200, 300, 400];
-//! contract(&a, &[1, 2, 3, 4, 5, 6], &b, &[1, 0, 2, 0, 1, 1], &d, &mut words, 1, 2)?;
+//! Contraction::new(a, b, d).with_alpha(1).with_beta(2).contract(&mut words)?;
 //! assert_eq!(words, [211, 414, 608, 810]);
 //! # Ok::<(), nezgrak::Refusal>(())
 //! ```
@@ -25,6 +25,7 @@
 #![deny(missing_docs)]
 
 mod contract;
+mod contraction;
 mod ffi;
 mod layout;
 mod refusal;
@@ -32,9 +33,9 @@ mod run_tiles;
 mod state;
 mod tiles;
 
-pub use contract::contract;
+pub use contraction::{Contraction, Tensor};
 pub use layout::Layout;
 pub use refusal::Refusal;
-pub use run_tiles::{run_tiles, Progress, TileSizes};
-pub use state::{state, OutputIndex, State};
+pub use run_tiles::{Progress, TileSizes};
+pub use state::{OutputIndex, State};
 pub use tiles::Tiles;

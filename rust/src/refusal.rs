@@ -4,17 +4,18 @@ use core::fmt;
 /// The question that a call failed. Questions are asked in the order of their numbers, each of A, B and D before the
 /// next, so the number is that of the first *no*. A refused call changes no word.
 ///
-/// [`contract()`](crate::contract()) asks 1 to 9, [`run_tiles()`](crate::run_tiles()) 1 to 12, and
-/// [`state()`](crate::state()) 1 to 10, 12 and 13.
+/// [`contract()`](crate::Contraction::contract) asks 1 to 9, [`run_tiles()`](crate::Contraction::run_tiles) 1 to 12, and
+/// [`state()`](crate::Contraction::state) 1 to 10, 12 and 13.
 ///
 /// ```
-/// use nezgrak::{contract, Layout};
+/// use nezgrak::{Contraction, Layout, Tensor};
 ///
-/// let one = Layout::scalar(0);
-/// let refused = contract(&one, &[2], &one, &[3], &Layout::scalar(1), &mut [0], 1, 0).unwrap_err();
+/// let two = Tensor::new(Layout::scalar(0), &[2]);
+/// let refused = Contraction::new(two, two, Layout::scalar(1)).contract(&mut [0]).unwrap_err();
 /// assert_eq!(refused.number(), 8);
+/// assert_eq!(refused.to_string(), "refused 8: an entry of A, B or D falls outside its slice");
 /// ```
-#[derive(Clone, Copy, Debug, PartialEq, Eq, Hash)]
+#[derive(Clone, Copy, PartialEq, Eq, Hash)]
 pub struct Refusal {
     number: u32,
 }
@@ -68,6 +69,13 @@ impl fmt::Display for Refusal {
     }
 }
 
+/// As it is displayed: `main` and `unwrap` show an error so.
+impl fmt::Debug for Refusal {
+    fn fmt(&self, f: &mut fmt::Formatter<'_>) -> fmt::Result {
+        fmt::Display::fmt(self, f)
+    }
+}
+
 impl Error for Refusal {}
 
 #[cfg(test)]
@@ -75,6 +83,7 @@ mod tests {
     extern crate std;
     use super::Refusal;
     use std::collections::HashSet;
+    use std::format;
     use std::string::ToString;
 
     #[test]
@@ -86,6 +95,8 @@ mod tests {
     fn each_number_has_a_text_of_its_own() {
         let texts: HashSet<_> = (1..=14).map(|n| Refusal::done_or(n).unwrap_err().finding()).collect();
         assert_eq!(texts.len(), 14);
-        assert_eq!(Refusal::done_or(6).unwrap_err().to_string(), "refused 6: a letter has two extents");
+        let refused = Refusal::done_or(6).unwrap_err();
+        assert_eq!(refused.to_string(), "refused 6: a letter has two extents");
+        assert_eq!(format!("{refused:?}"), "refused 6: a letter has two extents");
     }
 }

@@ -1,5 +1,5 @@
 use crate::ffi::nezgrak_run_tiles;
-use crate::{Layout, Refusal};
+use crate::{Contraction, Refusal};
 
 /// How much of a contraction one tile holds: so many counts of the row, column and depth group, fewer at the edge.
 ///
@@ -34,75 +34,78 @@ pub struct Progress {
     pub complete: bool,
 }
 
-/// Runs tiles of a contraction: the smaller of the budget and what is left after `done`.
-///
-/// The first eight arguments are those of [`contract()`](crate::contract()). Tiles are numbered from 0, by batch count,
-/// column block, panel of depth counts and row block, the last one fastest. Panel 0 of an output word puts
-/// beta × its old value + alpha × its part of the sum, later panels add alpha × theirs; when all tiles have run, D is
-/// what `contract()` leaves. [`state()`](crate::state()) says which words are old, partly summed or final until then.
-///
-/// `work` holds the packed blocks of the last tile run: A's row r and depth d at r + rows × d, from rows × depth on B's
-/// column c and depth d at c + cols × d, and 0 past an edge. The rest of it is unchanged, and all of it where no tile ran.
-///
-/// # Errors
-///
-/// The number of the first question that fails, 1 to 12; D and work are then unchanged.
-///
-/// ```
-/// use nezgrak::{run_tiles, Layout, Progress, TileSizes};
-///
-/// let a = Layout::new(b"ik", &[2, 3], &[1, 2], 0);
-/// let b = Layout::new(b"kj", &[3, 2], &[1, 3], 0);
-/// let d = Layout::new(b"ij", &[2, 2], &[1, 2], 0);
-/// let (a_words, b_words) = ([1, 2, 3, 4, 5, 6], [1, 0, 2, 0, 1, 1]);
-/// let sizes = TileSizes { rows: 1, cols: 1, depth: 2 };
-/// let (mut words, mut work) = ([100, 200, 300, 400], [0; 4]);
-///
-/// let first = run_tiles(&a, &a_words, &b, &b_words, &d, &mut words, 1, 2, sizes, &mut work, 0, 3)?;
-/// assert_eq!(first, Progress { done: 3, complete: false });
-/// assert_eq!(words, [211, 402, 300, 400]);
-/// assert_eq!(work, [5, 0, 2, 0]);
-///
-/// let rest = run_tiles(&a, &a_words, &b, &b_words, &d, &mut words, 1, 2, sizes, &mut work, first.done, u64::MAX)?;
-/// assert_eq!(rest, Progress { done: 8, complete: true });
-/// assert_eq!(words, [211, 414, 608, 810]);
-/// # Ok::<(), nezgrak::Refusal>(())
-/// ```
-#[allow(clippy::too_many_arguments)] // What `contract()` takes, and four more that say which tiles.
-pub fn run_tiles(
-    a: &Layout<'_>,
-    a_words: &[u32],
-    b: &Layout<'_>,
-    b_words: &[u32],
-    d: &Layout<'_>,
-    d_words: &mut [u32],
-    alpha: u32,
-    beta: u32,
-    sizes: TileSizes,
-    work: &mut [u32],
-    done: u64,
-    budget: u64,
-) -> Result<Progress, Refusal> {
-    let (mut done_after, mut complete) = (done, 0);
-    // SAFETY: as in `contract`; D and work are lent by `&mut` and the two answers are variables of this function, so
-    // that nothing that is written shares a word with anything else that is passed.
-    #[rustfmt::skip] // a tensor to a paragraph
-    let number = unsafe {
-        nezgrak_run_tiles(
-            a.letters.as_ptr(), a.letters.len(), a.extents.as_ptr(), a.extents.len(),
-            a.strides.as_ptr(), a.strides.len(), a.base, a_words.as_ptr(), a_words.len(),
-
-            b.letters.as_ptr(), b.letters.len(), b.extents.as_ptr(), b.extents.len(),
-            b.strides.as_ptr(), b.strides.len(), b.base, b_words.as_ptr(), b_words.len(),
-
-            d.letters.as_ptr(), d.letters.len(), d.extents.as_ptr(), d.extents.len(),
-            d.strides.as_ptr(), d.strides.len(), d.base, d_words.as_mut_ptr(), d_words.len(),
-
-            alpha, beta,
-            sizes.rows, sizes.cols, sizes.depth, work.as_mut_ptr(), work.len(),
-            done, budget, &mut done_after, &mut complete,
-        )
-    };
-    Refusal::done_or(number)?;
-    Ok(Progress { done: done_after, complete: complete == 1 })
+impl Contraction<'_> {
+    /// Runs tiles: the smaller of the budget and what is left after `done`.
+    ///
+    /// Tiles are numbered from 0, by batch count, column block, panel of depth counts and row block, the last one fastest.
+    /// Panel 0 of an output word puts beta × its old value + alpha × its part of the sum, later panels add alpha × theirs;
+    /// when all tiles have run, D is what [`contract()`](Contraction::contract) leaves. [`state()`](Contraction::state)
+    /// says which words are old, partly summed or final until then. Between calls only the budget and `work` may change.
+    ///
+    /// `work` holds the packed blocks of the last tile run: A's row r and depth d at r + rows × d, from rows × depth on
+    /// B's column c and depth d at c + cols × d, and 0 past an edge. The rest of it is unchanged, and all of it where no
+    /// tile ran.
+    ///
+    /// # Errors
+    ///
+    /// The number of the first question that fails, 1 to 12; D and work are then unchanged.
+    ///
+    /// ```
+    /// use nezgrak::{Contraction, Layout, Progress, Tensor, TileSizes};
+    ///
+    /// let a = Tensor::new(Layout::new(b"ik", &[2, 3], &[1, 2], 0), &[1, 2, 3, 4, 5, 6]);
+    /// let b = Tensor::new(Layout::new(b"kj", &[3, 2], &[1, 3], 0), &[1, 0, 2, 0, 1, 1]);
+    /// let d = Layout::new(b"ij", &[2, 2], &[1, 2], 0);
+    /// let contraction = Contraction::new(a, b, d).with_beta(2);
+    /// let sizes = TileSizes { rows: 1, cols: 1, depth: 2 };
+    /// let (mut words, mut work) = ([100, 200, 300, 400], [0; 4]);
+    ///
+    /// let first = contraction.run_tiles(&mut words, sizes, &mut work, 0, 3)?;
+    /// assert_eq!(first, Progress { done: 3, complete: false });
+    /// assert_eq!(words, [211, 402, 300, 400]);
+    /// assert_eq!(work, [5, 0, 2, 0]);
+    ///
+    /// let rest = contraction.run_tiles(&mut words, sizes, &mut work, first.done, u64::MAX)?;
+    /// assert_eq!(rest, Progress { done: 8, complete: true });
+    /// assert_eq!(words, [211, 414, 608, 810]);
+    /// # Ok::<(), nezgrak::Refusal>(())
+    /// ```
+    pub fn run_tiles(
+        &self,
+        d: &mut [u32],
+        sizes: TileSizes,
+        work: &mut [u32],
+        done: u64,
+        budget: u64,
+    ) -> Result<Progress, Refusal> {
+        let (mut done_after, mut complete) = (done, 0);
+        // SAFETY: as in `contract`; D and work are lent by `&mut` and the two answers are variables of this function, so
+        // that nothing that is written shares a word with anything else that is passed.
+        let number = unsafe {
+            nezgrak_run_tiles(
+                self.a.layout.as_words(),
+                self.a.words.as_ptr(),
+                self.a.words.len(),
+                self.b.layout.as_words(),
+                self.b.words.as_ptr(),
+                self.b.words.len(),
+                self.d.as_words(),
+                d.as_mut_ptr(),
+                d.len(),
+                self.alpha,
+                self.beta,
+                sizes.rows,
+                sizes.cols,
+                sizes.depth,
+                work.as_mut_ptr(),
+                work.len(),
+                done,
+                budget,
+                &mut done_after,
+                &mut complete,
+            )
+        };
+        Refusal::done_or(number)?;
+        Ok(Progress { done: done_after, complete: complete == 1 })
+    }
 }

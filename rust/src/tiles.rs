@@ -1,21 +1,21 @@
-use crate::{run_tiles, state, Layout, OutputIndex, Progress, Refusal, State, TileSizes};
+use crate::{Contraction, OutputIndex, Progress, Refusal, State, TileSizes};
 
 /// A contraction that is run tile by tile: everything it needs, and the count of tiles done.
+/// [`Contraction::tiles`] makes it.
 ///
 /// [`step`](Tiles::step) runs up to a budget of tiles and returns, so that a device can contract while it waits for its
 /// next input; between steps the words of D and the state of each can be read. As an iterator it runs one tile for each
 /// [`next`](Iterator::next), or the budget that [`with_budget`](Tiles::with_budget) sets, until all are done.
 ///
 /// ```
-/// use nezgrak::{Layout, OutputIndex, State, TileSizes, Tiles};
+/// use nezgrak::{Contraction, Layout, OutputIndex, State, Tensor, TileSizes};
 ///
-/// let a = Layout::new(b"ik", &[2, 3], &[1, 2], 0);
-/// let b = Layout::new(b"kj", &[3, 2], &[1, 3], 0);
+/// let a = Tensor::new(Layout::new(b"ik", &[2, 3], &[1, 2], 0), &[1, 2, 3, 4, 5, 6]);
+/// let b = Tensor::new(Layout::new(b"kj", &[3, 2], &[1, 3], 0), &[1, 0, 2, 0, 1, 1]);
 /// let d = Layout::new(b"ij", &[2, 2], &[1, 2], 0);
-/// let (a_words, b_words) = ([1, 2, 3, 4, 5, 6], [1, 0, 2, 0, 1, 1]);
 /// let sizes = TileSizes { rows: 1, cols: 1, depth: 2 };
 /// let (mut words, mut work) = ([100, 200, 300, 400], [0; 4]);
-/// let mut tiles = Tiles::new(&a, &a_words, &b, &b_words, &d, &mut words, 1, 2, sizes, &mut work)?;
+/// let mut tiles = Contraction::new(a, b, d).with_beta(2).tiles(&mut words, sizes, &mut work)?;
 ///
 /// tiles.step(3)?;
 /// assert_eq!((tiles.done(), tiles.total()), (3, 8));
@@ -33,14 +33,8 @@ use crate::{run_tiles, state, Layout, OutputIndex, Progress, Refusal, State, Til
 /// ```
 #[derive(Debug)]
 pub struct Tiles<'a> {
-    a: Layout<'a>,
-    a_words: &'a [u32],
-    b: Layout<'a>,
-    b_words: &'a [u32],
-    d: Layout<'a>,
-    d_words: &'a mut [u32],
-    alpha: u32,
-    beta: u32,
+    contraction: Contraction<'a>,
+    d: &'a mut [u32],
     sizes: TileSizes,
     work: &'a mut [u32],
     done: u64,
@@ -48,35 +42,23 @@ pub struct Tiles<'a> {
     budget: u64,
 }
 
-impl<'a> Tiles<'a> {
-    /// No total is larger: there are no more tiles than terms, and question 7 limits those.
-    const MOST: u64 = 1_073_741_824;
-
-    /// A contraction of which no tile is done. The arguments are those of [`run_tiles()`], which also says what is left
-    /// in `work`.
+impl<'a> Contraction<'a> {
+    /// The contraction tile by tile, into these words of D, with no tile done yet. [`run_tiles()`](Contraction::run_tiles)
+    /// says what is left in `work`; [`TileSizes::work_words`] says how long it has to be.
     ///
     /// # Errors
     ///
     /// The number of the first question that fails, 1 to 11. They are asked here, so that no step is refused later.
-    #[allow(clippy::too_many_arguments)] // What `run_tiles()` takes.
-    pub fn new(
-        a: &Layout<'a>,
-        a_words: &'a [u32],
-        b: &Layout<'a>,
-        b_words: &'a [u32],
-        d: &Layout<'a>,
-        d_words: &'a mut [u32],
-        alpha: u32,
-        beta: u32,
-        sizes: TileSizes,
-        work: &'a mut [u32],
-    ) -> Result<Self, Refusal> {
-        let (a, b, d) = (*a, *b, *d);
-        let (done, total, budget) = (0, 0, 1);
-        let mut tiles = Self { a, a_words, b, b_words, d, d_words, alpha, beta, sizes, work, done, total, budget };
+    pub fn tiles(self, d: &'a mut [u32], sizes: TileSizes, work: &'a mut [u32]) -> Result<Tiles<'a>, Refusal> {
+        let mut tiles = Tiles { contraction: self, d, sizes, work, done: 0, total: 0, budget: 1 };
         tiles.total = tiles.largest_count()?;
         Ok(tiles)
     }
+}
+
+impl Tiles<'_> {
+    /// No total is larger: there are no more tiles than terms, and question 7 limits those.
+    const MOST: u64 = 1_073_741_824;
 
     /// The same, with this many tiles for each [`next`](Iterator::next). With a budget of 0 no tile would ever run, so
     /// the iterator then ends at once.
@@ -89,7 +71,7 @@ impl<'a> Tiles<'a> {
     ///
     /// # Errors
     ///
-    /// None: the questions are asked again, of what [`new`](Tiles::new) asked them of.
+    /// None: the questions are asked again, of what [`Contraction::tiles`] asked them of.
     pub fn step(&mut self, budget: u64) -> Result<Progress, Refusal> {
         let progress = self.run(self.done, budget)?;
         self.done = progress.done;
@@ -102,19 +84,7 @@ impl<'a> Tiles<'a> {
     ///
     /// 13 where a count is not below the size of its group.
     pub fn state(&self, index: OutputIndex) -> Result<State, Refusal> {
-        state(
-            &self.a,
-            self.a_words,
-            &self.b,
-            self.b_words,
-            &self.d,
-            self.d_words,
-            self.alpha,
-            self.beta,
-            self.sizes,
-            self.done,
-            index,
-        )
+        self.contraction.state(self.d, self.sizes, self.done, index)
     }
 
     /// How many tiles are done.
@@ -138,24 +108,11 @@ impl<'a> Tiles<'a> {
     /// D's slice as it is now.
     #[must_use]
     pub fn words(&self) -> &[u32] {
-        self.d_words
+        self.d
     }
 
     fn run(&mut self, done: u64, budget: u64) -> Result<Progress, Refusal> {
-        run_tiles(
-            &self.a,
-            self.a_words,
-            &self.b,
-            self.b_words,
-            &self.d,
-            self.d_words,
-            self.alpha,
-            self.beta,
-            self.sizes,
-            self.work,
-            done,
-            budget,
-        )
+        self.contraction.run_tiles(self.d, self.sizes, self.work, done, budget)
     }
 
     /// The total is the largest count of tiles done that question 12 accepts. The engine is asked, with a budget of 0

@@ -5,22 +5,21 @@ mod common;
 use common::broken::{sound_request, ways};
 use common::case::Case;
 use common::groups::{Cut, Groups};
+use common::lent::layout_of;
 use common::make::{accepted, Kind};
 use common::panels::Model;
 use common::request::Request;
 use common::rng::Rng;
-use nezgrak::{contract, Layout, OutputIndex, Progress, Refusal, State, TileSizes, Tiles};
+use nezgrak::{Contraction, OutputIndex, Progress, Refusal, State, Tensor, TileSizes, Tiles};
 
 const KIND: Kind = Kind { labels: 6, extents: &[1, 2, 3, 5, 8], terms: 800, aligned: false };
 
 /// Calls with the driver of a request, which takes the words from its slices.
 fn with_tiles<T>(r: &mut Request, use_it: impl FnOnce(Tiles<'_>) -> T) -> Result<T, Refusal> {
     let Request { case: Case { a, b, d, alpha, beta }, sizes, work, .. } = r;
-    let layout_a = Layout::new(&a.letters, &a.extents, &a.strides, a.base);
-    let layout_b = Layout::new(&b.letters, &b.extents, &b.strides, b.base);
-    let layout_d = Layout::new(&d.letters, &d.extents, &d.strides, d.base);
-    Tiles::new(&layout_a, &a.words, &layout_b, &b.words, &layout_d, &mut d.words, *alpha, *beta, *sizes, work)
-        .map(use_it)
+    let [a, b] = [a, b].map(|t| Tensor::new(layout_of(t), &t.words));
+    let contraction = Contraction::new(a, b, layout_of(d)).with_alpha(*alpha).with_beta(*beta);
+    contraction.tiles(&mut d.words, *sizes, work).map(use_it)
 }
 
 fn seeded(seed: u64) -> Rng {
@@ -99,10 +98,10 @@ fn as_an_iterator() {
 }
 
 fn plain(case: &Case) -> Vec<u32> {
-    let [a, b, d] = case.tensors().map(|t| Layout::new(&t.letters, &t.extents, &t.strides, t.base));
+    let [a, b] = [&case.a, &case.b].map(|t| Tensor::new(layout_of(t), &t.words));
+    let contraction = Contraction::new(a, b, layout_of(&case.d)).with_alpha(case.alpha).with_beta(case.beta);
     let mut words = case.d.words.clone();
-    let done = contract(&a, &case.a.words, &b, &case.b.words, &d, &mut words, case.alpha, case.beta);
-    assert_eq!(done, Ok(()));
+    assert_eq!(contraction.contract(&mut words), Ok(()));
     words
 }
 

@@ -1,4 +1,4 @@
-/* The plain call from C, by its flat parameters and by layouts. Prints a line for each check; the status is 0 where all hold. */
+/* The plain call from C. Prints a line for each check; the status is 0 where all hold. */
 #include "check.h"
 
 /* The product of the two matrices, what D's slice is said to hold, and the factors. */
@@ -16,7 +16,7 @@ static contraction product(void)
 
 static uint32_t run(contraction *c)
 {
-    return nezgrak_contract_layouts(
+    return nezgrak_contract(
         &c->m.a, c->m.a_words, 6, &c->m.b, c->m.b_words, 6, &c->m.d, c->m.d_words + GUARD, c->d_count, c->alpha, c->beta);
 }
 
@@ -34,18 +34,23 @@ static void refused(const char *name, contraction c, uint32_t answer)
     check(name, answers(c, answer, c.m.d_words + GUARD));
 }
 
-static void check_flat(void)
+/* A layout of one axis `i` of extent 3, word by word. */
+static nezgrak_layout three_words(int32_t stride, uint32_t base)
 {
-    const uint32_t a[] = {1, 2, 3}, b[] = {1, 0, 0}, extents[] = {3}, none[] = {0};
-    const int32_t down[] = {-1}, up[] = {1};
-    const uint8_t letter[] = {'i'};
+    nezgrak_layout layout = {{'i'}, {3}, {stride}, 1, 1, 1, base};
+    return layout;
+}
+
+static void check_one_axis(void)
+{
+    const uint32_t a[] = {1, 2, 3}, b[] = {1, 0, 0};
+    const nezgrak_layout up = three_words(1, 0), down = three_words(-1, 2), below = three_words(-1, 1);
+    const nezgrak_layout one = {{0}, {0}, {0}, 0, 0, 0, 0};
     uint32_t d[] = {5};
-    uint32_t found = nezgrak_contract(
-        letter, 1, extents, 1, down, 1, 2, a, 3, letter, 1, extents, 1, up, 1, 0, b, 3, letter, 0, none, 0, up, 0, 0, d, 1, 1, 0);
-    check("flat: a negative stride counts down from the base", found == 0 && d[0] == 3);
-    found = nezgrak_contract(
-        letter, 1, extents, 1, down, 1, 1, a, 3, letter, 1, extents, 1, up, 1, 0, b, 3, letter, 0, none, 0, up, 0, 0, d, 1, 1, 0);
-    check("flat: an entry below word 0 is refused by 8", found == 8 && d[0] == 3);
+    uint32_t found = nezgrak_contract(&down, a, 3, &up, b, 3, &one, d, 1, 1, 0);
+    check("a negative stride counts down from the base", found == 0 && d[0] == 3);
+    found = nezgrak_contract(&below, a, 3, &up, b, 3, &one, d, 1, 1, 0);
+    check("an entry below word 0 is refused by 8", found == 8 && d[0] == 3);
 }
 
 static void check_results(void)
@@ -62,29 +67,29 @@ static void check_results(void)
     check("words wrap", answers(c, 0, (const uint32_t[]){100, 200, 300, 402}));
 
     c = product();
-    c.m.d.letters = (const uint8_t *)"ii";
+    c.m.d.letters[1] = 'i';
     c.m.a = c.m.b = nezgrak_layout_scalar(5);
     check("a repeated letter of D is its diagonal", answers(c, 0, (const uint32_t[]){206, 200, 300, 806}));
 }
 
 static void check_refusals(void)
 {
-    static const uint32_t ones[9] = {1, 1, 1, 1, 1, 1, 1, 1, 1}, zero[2] = {2, 0}, fours[2] = {4, 4}, large[3] = {32768, 32769, 1};
-    static const int32_t zeros[9] = {0}, far[2] = {1, 16777217}, equal[2] = {1, 1};
+    static const uint32_t ones[9] = {1, 1, 1, 1, 1, 1, 1, 1, 1}, zero[2] = {2, 0}, large[3] = {32768, 32769, 1};
+    static const int32_t zeros[9] = {0};
     contraction c = product();
-    c.m.d.strides = equal;
+    c.m.d.strides[1] = 1;
     refused("9: the strides of D do not keep its entries apart", c, 9);
     c.d_count = WORDS - 2;
     refused("8: an entry outside its slice", c, 8);
     c.m.a = nezgrak_layout_of("xyz", large, zeros, 3, 0);
     refused("7: the product of all extents", c, 7);
-    c.m.b.extents = fours;
+    c.m.b.extents[0] = c.m.b.extents[1] = 4;
     refused("6: a letter with two extents", c, 6);
-    c.m.b.strides = far;
+    c.m.b.strides[1] = 16777217;
     refused("5: a stride's size", c, 5);
     c.m.a = nezgrak_layout_of("xy", zero, zeros, 2, 0);
     refused("4: an extent of 0", c, 4);
-    c.m.b.letters = (const uint8_t *)"k1";
+    c.m.b.letters[1] = '1';
     refused("3: not a letter, of B where A's extent is 0", c, 3);
     c.m.d.stride_count = 1;
     refused("2: fewer strides than letters", c, 2);
@@ -94,7 +99,7 @@ static void check_refusals(void)
 
 int main(void)
 {
-    check_flat();
+    check_one_axis();
     check_results();
     check_refusals();
     return failed != 0;

@@ -1,4 +1,4 @@
-/* Tile calls and state questions from C, by flat parameters and by layouts. Prints a line for each check; the status is 0 where all hold. */
+/* Tile calls and state questions from C. Prints a line for each check; the status is 0 where all hold. */
 #include "check.h"
 
 enum { WORK = 6, UNSET = 77 };
@@ -27,14 +27,14 @@ static contraction product(void)
 
 static uint32_t run(contraction *c)
 {
-    return nezgrak_run_tiles_layouts(
+    return nezgrak_run_tiles(
         &c->m.a, c->m.a_words, 6, &c->m.b, c->m.b_words, 6, &c->m.d, c->m.d_words + GUARD, WORDS, 1, 2,
         c->rows, c->cols, c->depth, c->work + GUARD, c->work_count, c->done, c->budget, &c->done_after, &c->complete);
 }
 
 static uint32_t ask(contraction *c)
 {
-    return nezgrak_state_layouts(
+    return nezgrak_state(
         &c->m.a, c->m.a_words, 6, &c->m.b, c->m.b_words, 6, &c->m.d, c->m.d_words + GUARD, WORDS, 1, 2,
         c->rows, c->cols, c->depth, c->done, c->batch, c->row, c->column, &c->state);
 }
@@ -73,21 +73,17 @@ static void not_asked(const char *name, contraction c, uint32_t answer)
     check(name, found == answer && same(&c, &after));
 }
 
-static void check_flat(void)
+/* A dot product of three terms, A's counted down, in panels of two. */
+static void check_one_axis(void)
 {
-    const uint32_t a[] = {1, 2, 3}, b[] = {1, 0, 5}, extents[] = {3}, none[] = {0};
-    const int32_t down[] = {-1}, up[] = {1};
-    const uint8_t letter[] = {'i'};
+    const uint32_t a[] = {1, 2, 3}, b[] = {1, 0, 5};
+    const nezgrak_layout down = {{'i'}, {3}, {-1}, 1, 1, 1, 2}, up = {{'i'}, {3}, {1}, 1, 1, 1, 0}, one = {{0}, {0}, {0}, 0, 0, 0, 0};
     uint32_t d[] = {5}, work[] = {9, 9, 9, 9}, complete = UNSET, state = UNSET;
     uint64_t done = UNSET;
-    uint32_t found = nezgrak_run_tiles(
-        letter, 1, extents, 1, down, 1, 2, a, 3, letter, 1, extents, 1, up, 1, 0, b, 3, letter, 0, none, 0, up, 0, 0, d, 1, 1, 2,
-        1, 1, 2, work, 4, 0, 1, &done, &complete);
-    check("flat: the first of two panels", found == 0 && done == 1 && complete == 0 && d[0] == 13 && work[0] == 3 && work[1] == 2);
-    found = nezgrak_state(
-        letter, 1, extents, 1, down, 1, 2, a, 3, letter, 1, extents, 1, up, 1, 0, b, 3, letter, 0, none, 0, up, 0, 0, d, 1, 1, 2,
-        1, 1, 2, done, 0, 0, 0, &state);
-    check("flat: a word with some panels done", found == 0 && state == NEZGRAK_PART);
+    uint32_t found = nezgrak_run_tiles(&down, a, 3, &up, b, 3, &one, d, 1, 1, 2, 1, 1, 2, work, 4, 0, 1, &done, &complete);
+    check("the first of two panels", found == 0 && done == 1 && complete == 0 && d[0] == 13 && work[0] == 3 && work[1] == 2);
+    found = nezgrak_state(&down, a, 3, &up, b, 3, &one, d, 1, 1, 2, 1, 1, 2, done, 0, 0, 0, &state);
+    check("a word with some panels done", found == 0 && state == NEZGRAK_PART);
 }
 
 static void check_calls(void)
@@ -145,7 +141,6 @@ static void check_states(void)
 
 static void check_refusals(void)
 {
-    static const int32_t equal[2] = {1, 1};
     contraction c = product();
     c.column = 2;
     not_asked("13: a column count outside its group", c, 13);
@@ -158,14 +153,14 @@ static void check_refusals(void)
     c.depth = 129;
     refused("10: a depth over 128", c, 10);
     not_asked("10: also of a state", c, 10);
-    c.m.d.strides = equal;
+    c.m.d.strides[1] = 1;
     refused("9: the questions of the plain call come first", c, 9);
     not_asked("9: also of a state", c, 9);
 }
 
 int main(void)
 {
-    check_flat();
+    check_one_axis();
     check_calls();
     check_uneven();
     check_states();

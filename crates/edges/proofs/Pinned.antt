@@ -18,6 +18,7 @@ use Rattle.records.proofs.RecordCases.{record-cases}
 use Rattle.go.proofs.GoCases.{go-cases}
 use Rattle.jobfile.proofs.JobFileCases.{job-file-cases}
 use Rattle.states.proofs.LetterCases.{letter-cases}
+use Rattle.flat.proofs.FlatLayoutCases.{flat-layout-cases}
 use Rattle.flat.proofs.StatusCases.{status-cases}
 use Rattle.edges.specs.Pinned.{Pinned}
 use Rattle.edges.proofs.Starred.{edges-hold}
@@ -48,5 +49,6 @@ pinned =
       job-file = job-file-cases;
       letters = letter-cases;
       printed = job-cases;
+      layout-words = flat-layout-cases;
       numbers = status-cases;
     }

@@ -20,6 +20,7 @@ use Rattle.records.specs.RecordCases.{RecordCases}
 use Rattle.go.specs.GoCases.{GoCases}
 use Rattle.jobfile.specs.JobFileCases.{JobFileCases}
 use Rattle.states.specs.LetterCases.{LetterCases}
+use Rattle.flat.specs.FlatLayoutCases.{FlatLayoutCases}
 use Rattle.flat.specs.StatusCases.{StatusCases}
 use Rattle.edges.specs.Edges.{edges, Holds}
 use Rattle.edges.specs.LabelKinds.{LabelKindCases}
@@ -51,5 +52,6 @@ pub record Pinned : Type 0 where
   pub job-file : JobFileCases
   pub letters : LetterCases
   pub printed : JobCases
-  -- the numbers of the calls for C and Rust
+  -- the calls for C and Rust: a layout's words, and the numbers that are returned and set
+  pub layout-words : FlatLayoutCases
   pub numbers : StatusCases

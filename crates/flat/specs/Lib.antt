@@ -1,4 +1,6 @@
 pub mod Flat
+pub mod FlatLayout
+pub mod FlatLayoutCases
 pub mod FlatState
 pub mod FlatTiles
 pub mod StatusCases

@@ -1,5 +1,6 @@
-// Parts of the calls for C and Rust: the contraction of flat parameters, and each answer as numbers.
+// Parts of the calls for C and Rust: a layout of 28 words, the contraction of three, and each answer as numbers.
 pub mod contraction_of;
+pub mod layout_words;
 pub mod plain_answer;
 pub mod state_answer;
 pub mod tile_answer;

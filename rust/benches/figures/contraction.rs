@@ -1,6 +1,6 @@
 //! A contraction with its words, and the engine's calls of it.
 
-use nezgrak::{Layout, OutputIndex, Progress, Refusal, State, TileSizes};
+use nezgrak::{Layout, TileSizes};
 use std::hint::black_box;
 
 /// The tile that every case is run with: rows, columns, depth.
@@ -23,8 +23,12 @@ impl Tensor {
         Self { letters, extents: extents.to_vec(), strides: strides.to_vec(), base, words }
     }
 
-    pub fn layout(&self) -> Layout<'_> {
+    fn layout(&self) -> Layout {
         Layout::new(self.letters.as_bytes(), &self.extents, &self.strides, self.base)
+    }
+
+    fn read(&self) -> nezgrak::Tensor<'_> {
+        nezgrak::Tensor::new(self.layout(), &self.words)
     }
 }
 
@@ -48,36 +52,21 @@ impl Contraction {
         black_box(Self { a: tensor(a, 1), b: tensor(b, 2), d: tensor(d, 3), alpha, beta })
     }
 
+    /// What the engine takes.
+    pub fn lent(&self) -> nezgrak::Contraction<'_> {
+        let (a, b, d) = (self.a.read(), self.b.read(), self.d.layout());
+        nezgrak::Contraction::new(a, b, d).with_alpha(self.alpha).with_beta(self.beta)
+    }
+
     /// The plain engine.
     pub fn contract(&self, d: &mut [u32]) {
-        let [a, b, to] = [&self.a, &self.b, &self.d].map(Tensor::layout);
-        nezgrak::contract(&a, &self.a.words, &b, &self.b.words, &to, d, self.alpha, self.beta)
-            .expect("an accepted contraction");
+        self.lent().contract(d).expect("an accepted contraction");
     }
 
     /// The tiled engine, all tiles in one call.
     pub fn contract_tiled(&self, d: &mut [u32], work: &mut [u32]) {
-        let progress = self.run_tiles(TILE, d, work, 0, u64::MAX).expect("an accepted contraction");
+        let progress = self.lent().run_tiles(d, TILE, work, 0, u64::MAX).expect("an accepted contraction");
         assert!(progress.complete, "tiles are left");
-    }
-
-    pub fn run_tiles(
-        &self,
-        sizes: TileSizes,
-        d: &mut [u32],
-        work: &mut [u32],
-        done: u64,
-        budget: u64,
-    ) -> Result<Progress, Refusal> {
-        let [a, b, to] = [&self.a, &self.b, &self.d].map(Tensor::layout);
-        let (alpha, beta) = (self.alpha, self.beta);
-        nezgrak::run_tiles(&a, &self.a.words, &b, &self.b.words, &to, d, alpha, beta, sizes, work, done, budget)
-    }
-
-    pub fn state(&self, sizes: TileSizes, done: u64, index: OutputIndex) -> Result<State, Refusal> {
-        let [a, b, d] = [&self.a, &self.b, &self.d].map(Tensor::layout);
-        let (alpha, beta) = (self.alpha, self.beta);
-        nezgrak::state(&a, &self.a.words, &b, &self.b.words, &d, &self.d.words, alpha, beta, sizes, done, index)
     }
 }
 

@@ -2,7 +2,6 @@
 
 mod calls;
 mod choose;
-mod header;
 mod list;
 mod make;
 mod notes;

@@ -1,26 +1,46 @@
-//! The plain call under guard, alone and against the model.
+//! The plain call under guard, alone and against the model: by its words and by the safe call, which have to agree.
 
 use super::case::{same_words, Case, Outcome};
 use super::direct;
+use super::ffi::nezgrak_contract;
 use super::lent::Lent;
-use nezgrak::contract;
 
 /// Calls the engine. Fails where it changed anything that it may only read, or a guard word.
 pub fn run(case: &Case) -> Outcome {
-    let mut lent = Lent::of(case);
-    let result = contract(
-        &lent.a.layout(),
-        lent.a_words.part(),
-        &lent.b.layout(),
-        lent.b_words.part(),
-        &lent.d.layout(),
-        lent.d_words.part_mut(),
-        case.alpha,
-        case.beta,
-    );
+    let (flat, safe) = (run_flat(&mut Lent::of(case), case), run_safe(case));
+    assert!(flat == safe, "the flat and the safe call differ: {case:?}");
+    flat
+}
+
+/// The call by its pointers and lengths, of what is lent.
+pub fn run_flat(lent: &mut Lent, case: &Case) -> Outcome {
+    // SAFETY: each layout has 28 words, and each other pointer and length are those of one slice; no two of the slices
+    // that are written share a word.
+    let answer = unsafe {
+        nezgrak_contract(
+            lent.a.layout(),
+            lent.a.words().as_ptr(),
+            lent.a.words().len(),
+            lent.b.layout(),
+            lent.b.words().as_ptr(),
+            lent.b.words().len(),
+            lent.d.layout(),
+            lent.d.words_mut().as_mut_ptr(),
+            case.d.words.len(),
+            case.alpha,
+            case.beta,
+        )
+    };
     lent.check(case);
-    let answer = result.map_or_else(|refusal| refusal.number(), |()| 0);
-    Outcome { answer, words: lent.d_words.part().to_vec() }
+    Outcome { answer, words: lent.d.words().to_vec() }
+}
+
+fn run_safe(case: &Case) -> Outcome {
+    let mut lent = Lent::of(case);
+    let (contraction, d) = lent.contraction(case);
+    let answer = contraction.contract(d).map_or_else(|refusal| refusal.number(), |()| 0);
+    lent.check(case);
+    Outcome { answer, words: lent.d.words().to_vec() }
 }
 
 /// Calls the engine, compares the answer and every word of D with the model's, and gives what it found.

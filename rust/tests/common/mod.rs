@@ -12,7 +12,7 @@ pub mod call;
 pub mod case;
 pub mod cutting;
 pub mod direct;
-/// The archive's calls by their flat parameters, which show what the safe calls hide where a question refuses.
+/// The archive's calls by their pointers and lengths, which show what the safe calls hide where a question refuses.
 #[path = "../../src/ffi.rs"]
 pub mod ffi;
 pub mod flaws;

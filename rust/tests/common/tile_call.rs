@@ -1,4 +1,4 @@
-//! Tile calls and state questions under guard: each by its flat parameters and by the safe call, which have to agree.
+//! Tile calls and state questions under guard: each by its words and by the safe call, which have to agree.
 
 use super::case::same_words;
 use super::ffi::{nezgrak_run_tiles, nezgrak_state};
@@ -6,7 +6,7 @@ use super::guard::Guarded;
 use super::lent::Lent;
 use super::panels;
 use super::request::{Ran, Request};
-use nezgrak::{run_tiles, state, State};
+use nezgrak::State;
 
 /// What stands where the answers go before a call.
 const UNSET_COUNT: u64 = 0x5e17_1e55_c0de_d00d;
@@ -19,59 +19,58 @@ pub fn run(r: &Request) -> Ran {
     flat
 }
 
+/// The call by its pointers and lengths.
 fn run_flat(r: &Request) -> Ran {
-    let mut lent = Lent::of(&r.case);
-    let (mut work, mut done) = (Guarded::around(&r.work), Guarded::around(&[UNSET_COUNT]));
-    let mut complete = Guarded::around(&[UNSET]);
-    let (a, b, d) = (lent.a.layout(), lent.b.layout(), lent.d.layout());
-    // SAFETY: each pointer and length are those of one slice; no two of the slices that are written share a word.
-    #[rustfmt::skip] // a tensor to a paragraph
+    run_lent(&mut Lent::of(&r.case), r, Guarded::around(&r.work), UNSET_COUNT, UNSET)
+}
+
+/// The same of what is lent, with these numbers where the answers go.
+pub fn run_lent(lent: &mut Lent, r: &Request, mut work: Guarded<u32>, unset_count: u64, unset: u32) -> Ran {
+    let (mut done, mut complete) = (Guarded::around(&[unset_count]), Guarded::around(&[unset]));
+    // SAFETY: each layout has 28 words, and each other pointer and length are those of one slice; no two of the slices
+    // that are written share a word.
     let answer = unsafe {
         nezgrak_run_tiles(
-            a.letters.as_ptr(), a.letters.len(), a.extents.as_ptr(), a.extents.len(),
-            a.strides.as_ptr(), a.strides.len(), a.base, lent.a_words.part().as_ptr(), lent.a_words.part().len(),
-
-            b.letters.as_ptr(), b.letters.len(), b.extents.as_ptr(), b.extents.len(),
-            b.strides.as_ptr(), b.strides.len(), b.base, lent.b_words.part().as_ptr(), lent.b_words.part().len(),
-
-            d.letters.as_ptr(), d.letters.len(), d.extents.as_ptr(), d.extents.len(),
-            d.strides.as_ptr(), d.strides.len(), d.base, lent.d_words.part_mut().as_mut_ptr(), r.case.d.words.len(),
-
-            r.case.alpha, r.case.beta,
-            r.sizes.rows, r.sizes.cols, r.sizes.depth, work.part_mut().as_mut_ptr(), r.work.len(),
-            r.done, r.budget, done.part_mut().as_mut_ptr(), complete.part_mut().as_mut_ptr(),
+            lent.a.layout(),
+            lent.a.words().as_ptr(),
+            lent.a.words().len(),
+            lent.b.layout(),
+            lent.b.words().as_ptr(),
+            lent.b.words().len(),
+            lent.d.layout(),
+            lent.d.words_mut().as_mut_ptr(),
+            r.case.d.words.len(),
+            r.case.alpha,
+            r.case.beta,
+            r.sizes.rows,
+            r.sizes.cols,
+            r.sizes.depth,
+            work.part_mut().as_mut_ptr(),
+            r.work.len(),
+            r.done,
+            r.budget,
+            done.part_mut().as_mut_ptr(),
+            complete.part_mut().as_mut_ptr(),
         )
     };
     lent.check(&r.case);
     assert!(work.intact() && done.intact() && complete.intact(), "a word beside work or an answer was changed: {r:?}");
-    let (words, work) = (lent.d_words.part().to_vec(), work.part().to_vec());
+    let (words, work) = (lent.d.words().to_vec(), work.part().to_vec());
     Ran { answer, done: done.part()[0], complete: complete.part()[0], words, work }
 }
 
 fn run_safe(r: &Request) -> Ran {
     let mut lent = Lent::of(&r.case);
     let mut work = Guarded::around(&r.work);
-    let result = run_tiles(
-        &lent.a.layout(),
-        lent.a_words.part(),
-        &lent.b.layout(),
-        lent.b_words.part(),
-        &lent.d.layout(),
-        lent.d_words.part_mut(),
-        r.case.alpha,
-        r.case.beta,
-        r.sizes,
-        work.part_mut(),
-        r.done,
-        r.budget,
-    );
+    let (contraction, d) = lent.contraction(&r.case);
+    let result = contraction.run_tiles(d, r.sizes, work.part_mut(), r.done, r.budget);
     lent.check(&r.case);
     assert!(work.intact(), "a word beside work was changed: {r:?}");
     let (answer, done, complete) = match result {
         Ok(progress) => (0, progress.done, u32::from(progress.complete)),
         Err(refusal) => (refusal.number(), r.done, 0),
     };
-    Ran { answer, done, complete, words: lent.d_words.part().to_vec(), work: work.part().to_vec() }
+    Ran { answer, done, complete, words: lent.d.words().to_vec(), work: work.part().to_vec() }
 }
 
 /// Asks for a state: old 0, part 1 or final 2, or the number that refused. Fails where a word was changed.
@@ -82,31 +81,41 @@ pub fn ask(r: &Request) -> Result<u32, u32> {
 }
 
 fn ask_flat(r: &Request) -> Result<u32, u32> {
-    let lent = Lent::of(&r.case);
-    let mut state = Guarded::around(&[UNSET]);
-    let (a, b, d) = (lent.a.layout(), lent.b.layout(), lent.d.layout());
-    // SAFETY: each pointer and length are those of one slice; the state, which is written, shares no word with others.
-    #[rustfmt::skip] // a tensor to a paragraph
+    ask_lent(&Lent::of(&r.case), r, UNSET)
+}
+
+/// The same of what is lent, with this number where the state goes.
+pub fn ask_lent(lent: &Lent, r: &Request, unset: u32) -> Result<u32, u32> {
+    let mut state = Guarded::around(&[unset]);
+    // SAFETY: each layout has 28 words, and each other pointer and length are those of one slice; the state, which is
+    // written, shares no word with others.
     let answer = unsafe {
         nezgrak_state(
-            a.letters.as_ptr(), a.letters.len(), a.extents.as_ptr(), a.extents.len(),
-            a.strides.as_ptr(), a.strides.len(), a.base, lent.a_words.part().as_ptr(), lent.a_words.part().len(),
-
-            b.letters.as_ptr(), b.letters.len(), b.extents.as_ptr(), b.extents.len(),
-            b.strides.as_ptr(), b.strides.len(), b.base, lent.b_words.part().as_ptr(), lent.b_words.part().len(),
-
-            d.letters.as_ptr(), d.letters.len(), d.extents.as_ptr(), d.extents.len(),
-            d.strides.as_ptr(), d.strides.len(), d.base, lent.d_words.part().as_ptr(), lent.d_words.part().len(),
-
-            r.case.alpha, r.case.beta,
-            r.sizes.rows, r.sizes.cols, r.sizes.depth,
-            r.done, r.index.batch, r.index.row, r.index.column, state.part_mut().as_mut_ptr(),
+            lent.a.layout(),
+            lent.a.words().as_ptr(),
+            lent.a.words().len(),
+            lent.b.layout(),
+            lent.b.words().as_ptr(),
+            lent.b.words().len(),
+            lent.d.layout(),
+            lent.d.words().as_ptr(),
+            lent.d.words().len(),
+            r.case.alpha,
+            r.case.beta,
+            r.sizes.rows,
+            r.sizes.cols,
+            r.sizes.depth,
+            r.done,
+            r.index.batch,
+            r.index.row,
+            r.index.column,
+            state.part_mut().as_mut_ptr(),
         )
     };
     lent.check(&r.case);
-    same_words("D", r, lent.d_words.part(), &r.case.d.words);
+    same_words("D", r, lent.d.words(), &r.case.d.words);
     assert!(state.intact(), "a word beside the state was changed: {r:?}");
-    assert!(answer == 0 || state.part() == [UNSET], "a refusal set the state: {r:?}");
+    assert!(answer == 0 || state.part() == [unset], "a refusal set the state: {r:?}");
     match answer {
         0 => Ok(state.part()[0]),
         number => Err(number),
@@ -114,22 +123,11 @@ fn ask_flat(r: &Request) -> Result<u32, u32> {
 }
 
 fn ask_safe(r: &Request) -> Result<u32, u32> {
-    let lent = Lent::of(&r.case);
-    let result = state(
-        &lent.a.layout(),
-        lent.a_words.part(),
-        &lent.b.layout(),
-        lent.b_words.part(),
-        &lent.d.layout(),
-        lent.d_words.part(),
-        r.case.alpha,
-        r.case.beta,
-        r.sizes,
-        r.done,
-        r.index,
-    );
+    let mut lent = Lent::of(&r.case);
+    let (contraction, d) = lent.contraction(&r.case);
+    let result = contraction.state(d, r.sizes, r.done, r.index);
     lent.check(&r.case);
-    same_words("D", r, lent.d_words.part(), &r.case.d.words);
+    same_words("D", r, lent.d.words(), &r.case.d.words);
     match result {
         Ok(State::Old) => Ok(0),
         Ok(State::Part) => Ok(1),

@@ -42,7 +42,7 @@ pub fn all() -> [Call; 5] {
 
 /// A contraction with the words that a call may change.
 struct Lent<'a> {
-    contraction: &'a Contraction,
+    contraction: nezgrak::Contraction<'a>,
     sizes: TileSizes,
     d: Vec<u32>,
     work: Vec<u32>,
@@ -60,7 +60,7 @@ fn measure(
 ) -> Call {
     eprintln!("measuring a call: {what}");
     let [mut at_small, mut at_first, mut at_last] = [small, large, large].map(|contraction| Lent {
-        contraction,
+        contraction: contraction.lent(),
         sizes,
         d: contraction.d.words.clone(),
         work: vec![0; sizes.work_words()],
@@ -72,21 +72,21 @@ fn measure(
 }
 
 fn run_one(lent: &mut Lent<'_>, done: u64) {
-    let answer = lent.contraction.run_tiles(lent.sizes, &mut lent.d, &mut lent.work, done, 1);
+    let answer = lent.contraction.run_tiles(&mut lent.d, lent.sizes, &mut lent.work, done, 1);
     assert_eq!(answer.map(|progress| progress.done), Ok(done + 1), "a call of one tile");
 }
 
 fn run_none(lent: &mut Lent<'_>, done: u64) {
-    let answer = lent.contraction.run_tiles(lent.sizes, &mut lent.d, &mut lent.work, done, 0);
+    let answer = lent.contraction.run_tiles(&mut lent.d, lent.sizes, &mut lent.work, done, 0);
     assert_eq!(answer, Ok(Progress { done, complete: false }), "a call of budget 0");
 }
 
 fn ask_state(lent: &mut Lent<'_>, done: u64) {
-    let answer = lent.contraction.state(lent.sizes, done, OutputIndex::new(0, 0, 0));
+    let answer = lent.contraction.state(&lent.d, lent.sizes, done, OutputIndex::new(0, 0, 0));
     assert_eq!(answer, Ok(if done == 0 { State::Old } else { State::Final }), "a state question");
 }
 
 fn be_refused(lent: &mut Lent<'_>, done: u64) {
-    let answer = lent.contraction.run_tiles(lent.sizes, &mut lent.d, &mut lent.work, done, 1);
+    let answer = lent.contraction.run_tiles(&mut lent.d, lent.sizes, &mut lent.work, done, 1);
     assert_eq!(answer.map_err(|refusal| refusal.number()), Err(9), "a refused call");
 }

@@ -13,20 +13,22 @@ use Rattle.flat.proofs.contraction_of.contraction_of.Tie as tie
 made : {c : Contraction} {a a′ b b′ d d′ : Layout} (alpha beta : ℕ) → c ≡ contractionOf a b d alpha beta → a ≡ a′ → b ≡ b′ → d ≡ d′ → c ≡ contractionOf a′ b′ d′ alpha beta
 made alpha beta e ea eb ed = rw (e, ea, eb, ed)
 
+layout-of-requires : tie.Need-layout-of-requires
+layout-of-requires c κs = search needs
+
+layout-of-requires-2 : tie.Need-layout-of-requires-2
+layout-of-requires-2 c κs = search needs
+
+layout-of-requires-3 : tie.Need-layout-of-requires-3
+layout-of-requires-3 c κs = search needs
+
 new-requires : tie.Need-new-requires
 new-requires c κs = search needs
 
-new-requires-2 : tie.Need-new-requires-2
-new-requires-2 c κs = search needs
-
-new-requires-3 : tie.Need-new-requires-3
-new-requires-3 c κs = search needs
-
-new-requires-4 : tie.Need-new-requires-4
-new-requires-4 c κs = search needs
-
 returns : tie.Need-returns
-returns c = made _ _ (c .new4 .ensures) (c .before .before .before .new .ensures) (c .before .before .new2 .ensures) (c .before .new3 .ensures)
+returns c = made _ _ (c .new .ensures) (c .before .before .before .layout-of .ensures) (c .before .before .layout-of2 .ensures) (c .before .layout-of3 .ensures)
 
 pub contraction-of-spec : {M : Type 1} → statement M
-contraction-of-spec = tie.close (tie.spec new-requires new-requires-2 new-requires-3 new-requires-4 returns)
+contraction-of-spec =
+    tie.close
+    (tie.spec layout-of-requires layout-of-requires-2 layout-of-requires-3 new-requires returns)
