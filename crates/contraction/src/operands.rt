@@ -18,10 +18,8 @@ impl Operands {
         requires { ⌜ ListedFrom c (three a b d) ⌝ }
         ensures { λ r. ⌜ Ready c r ⌝ }
     {
-        let la = c.a;
-        let lb = c.b;
         let axes = d.axes;
-        let all = Labelled::of(axes.with(la).with(lb));
+        let all = Labelled::of(axes.with(c.a).with(c.b));
         Operands { a, b, d, all }
     }
 }

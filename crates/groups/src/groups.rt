@@ -65,16 +65,12 @@ fn dim_of(x: Operands, c: u8) -> Dim
     requires { ⌜ Gathered x ⌝ }
     ensures { λ r. ⌜ asLabel r ≡ label (shapeOf x) c ⌝ }
 {
-    let a = x.a;
-    let b = x.b;
-    let d = x.d;
-    let all = x.all;
     Dim {
         letter: c,
-        extent: extent_of(all.axes, c),
-        a: stride_of(a.axes, c),
-        b: stride_of(b.axes, c),
-        d: stride_of(d.axes, c),
+        extent: extent_of(x.all.axes, c),
+        a: stride_of(x.a.axes, c),
+        b: stride_of(x.b.axes, c),
+        d: stride_of(x.d.axes, c),
     }
 }
 
@@ -110,12 +106,11 @@ impl Group {
         requires { ⌜ (self .count ≤ axesLimit) × (start ≤ self .count) × Foldable (labelsIn self) ⌝ }
         ensures { λ r. ⌜ r ≡ size (drop start (labelsIn self)) ⌝ }
     {
-        let dims = self.dims;
         let mut product: u32 = 1;
         let mut i = self.count;
         while i > start {
             i -= 1;
-            let l = dims[i];
+            let l = self.dims[i];
             product = l.extent * product;
         }
         product
@@ -127,8 +122,7 @@ pub fn labels_of(x: Operands) -> Group
     requires { ⌜ Gathered x ⌝ }
     ensures { λ r. ⌜ (labelsIn r ≡ map (label (shapeOf x)) (labels (together (shapeOf x)))) × (r .count ≤ axesLimit) ⌝ }
 {
-    let all = x.all;
-    let letters = all.letters;
+    let letters = x.all.letters;
     let count = letters.count;
     let mut group = Group::none();
     let mut i: usize = 0;
@@ -145,8 +139,5 @@ pub fn groups_of(x: Operands) -> Sets
     requires { ⌜ Gathered x ⌝ }
     ensures { λ r. ⌜ Grouped (shapeOf x) r ⌝ }
 {
-    let a = x.a;
-    let b = x.b;
-    let d = x.d;
-    sets_of(a.letters.set, b.letters.set, d.letters.set)
+    sets_of(x.a.letters.set, x.b.letters.set, x.d.letters.set)
 }

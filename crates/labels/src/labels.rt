@@ -13,12 +13,11 @@ pub fn extent_of(x: Axes, c: u8) -> u32
     requires { ⌜ x .count ≤ axesLimit ⌝ }
     ensures { λ r. ⌜ r ≡ extentOf c (listed x) ⌝ }
 {
-    let items = x.items;
     let mut i = x.count;
     let mut extent: u32 = 1;
     while 0 < i {
         i -= 1;
-        let a = items[i];
+        let a = x.items[i];
         extent = pick(a.letter == c, a.extent, extent);
     }
     extent
@@ -29,12 +28,11 @@ pub fn stride_of(x: Axes, c: u8) -> u64
     requires { ⌜ Checked x ⌝ }
     ensures { λ r. ⌜ r ≡ wordOf 64 (strideOf c (listed x)) ⌝ }
 {
-    let items = x.items;
     let mut i = x.count;
     let mut sum: u64 = 0;
     while 0 < i {
         i -= 1;
-        let a = items[i];
+        let a = x.items[i];
         let word = words::address_word(a.stride);
         sum = std::num::wrapping_add_u64(pick_word(a.letter == c, word, 0), sum);
     }

@@ -78,12 +78,11 @@ pub fn letters_of(x: Axes) -> Letters
     requires { ⌜ Checked x ⌝ }
     ensures { λ r. ⌜ Spells r (labels (listed x)) ⌝ }
 {
-    let items = x.items;
     let count = x.count;
     let mut all = Letters::none();
     let mut i: usize = 0;
     while i < count {
-        let a = items[i];
+        let a = x.items[i];
         all = all.with(a.letter);
         i += 1;
     }

@@ -35,17 +35,15 @@ impl Axes {
     {
         let start = self.count;
         let rank = l.letter_count;
-        let from = l.axes;
-        let mut items = self.items;
+        let mut out = self;
         let mut i: usize = 0;
         while i < rank {
-            items[start + i] = from[i];
+            let at = start + i;
+            out.items[at] = l.axes[i];
             i += 1;
         }
-        Axes {
-            items,
-            count: start + rank,
-        }
+        out.count = start + rank;
+        out
     }
 
     pub fn of(l: Layout) -> Axes

@@ -61,9 +61,8 @@ pub fn output_plan_of(c: Contraction, x: Operands) -> OutputPlan
 {
     let all = labels_of(x);
     let sets = groups_of(x);
-    let d = x.d;
     OutputPlan {
-        output: folded(all, d.letters.set),
+        output: folded(all, x.d.letters.set),
         depth: folded(all, sets.depth),
         base: base_of(c),
     }

@@ -14,12 +14,11 @@ pub fn extents_agree(x: Axes) -> bool
     requires { ⌜ x .count ≤ axesLimit ⌝ }
     ensures { λ r. ⌜ r ≡ extentsAgree (listed x) ⌝ }
 {
-    let items = x.items;
     let mut i = x.count;
     let mut agree = true;
     while 0 < i {
         i -= 1;
-        let a = items[i];
+        let a = x.items[i];
         agree = (a.extent == extent_of(x, a.letter)) & agree;
     }
     agree

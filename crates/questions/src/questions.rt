@@ -25,11 +25,9 @@ fn later_refusal(c: Contraction, n: Lengths, x: Operands, within: bool) -> u32
     requires { ⌜ Ready c x × (within ≡ entriesInside (lentTensors (tensors c) (lengths n))) ⌝ }
     ensures { λ r. ⌜ r ≡ refusal (labelQuestions (tensors c) (lengths n) ++ entryQuestions (tensors c) (lengths n)) ⌝ }
 {
-    let all = x.all;
-    let d = x.d;
-    let agree = extents_agree(all.axes);
-    let fit = points_fit(all);
-    let apart = all_apart(d);
+    let agree = extents_agree(x.all.axes);
+    let fit = points_fit(x.all);
+    let apart = all_apart(x.d);
     ask(6, agree, ask(7, fit, ask(8, within, ask(9, apart, 0))))
 }
 

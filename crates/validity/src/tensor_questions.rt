@@ -61,7 +61,6 @@ pub fn valid_of(x: Axes) -> Valid
     requires { ⌜ x .count ≤ axesLimit ⌝ }
     ensures { λ r. ⌜ ValidOf (listed x) r ⌝ }
 {
-    let items = x.items;
     let mut i = x.count;
     let mut valid = Valid {
         letters: true,
@@ -70,7 +69,7 @@ pub fn valid_of(x: Axes) -> Valid
     };
     while 0 < i {
         i -= 1;
-        valid = valid.with(items[i]);
+        valid = valid.with(x.items[i]);
     }
     valid
 }

@@ -10,17 +10,17 @@ extent-of-requires : tie.Need-extent-of-requires
 extent-of-requires c κs = search needs
 
 stride-of-requires : tie.Need-stride-of-requires
-stride-of-requires c κs = c .before .before .before .before .before .pre .each A .checked
+stride-of-requires c κs = c .before .pre .each A .checked
 
 stride-of-requires-2 : tie.Need-stride-of-requires-2
-stride-of-requires-2 c κs = c .before .before .before .before .before .before .pre .each B .checked
+stride-of-requires-2 c κs = c .before .before .pre .each B .checked
 
 stride-of-requires-3 : tie.Need-stride-of-requires-3
-stride-of-requires-3 c κs = c .before .before .before .before .before .before .before .pre .each D .checked
+stride-of-requires-3 c κs = c .before .before .before .pre .each D .checked
 
 returns : tie.Need-returns
 returns c =
-    let s = c .before .before .before .before .before .before .before .before in
+    let s = c .before .before .before .before in
     rw (c .before .before .before .extent-of .ensures, c .before .before .stride-of .ensures, c .before .stride-of2 .ensures, c .stride-of3 .ensures)
     (as-label (s .args .x) (s .pre) (s .args .c))
 

@@ -11,7 +11,7 @@ sets-of-requires c κs = search needs
 
 returns : tie.Need-returns
 returns c =
-    let s = c .before .before .before .before in
+    let s = c .before in
     let x = s .args .x in
     record {
       labels =

@@ -39,10 +39,10 @@ element-copy-out-dim-of : tie.Need-element-copy-out-dim-of Inv-loop μ-loop
 element-copy-out-dim-of c = omega arith
 
 dim-of-requires : tie.Need-dim-of-requires Inv-loop μ-loop
-dim-of-requires c κs = c .before .before .before .before .before .before .pre
+dim-of-requires c κs = c .before .before .before .before .before .pre
 
-mul-t13 : tie.Need-mul-t13 Inv-loop μ-loop
-mul-t13 c = omega arith
+mul-t12 : tie.Need-mul-t12 Inv-loop μ-loop
+mul-t12 c = omega arith
 
 element-set-from-group : tie.Need-element-set-from-group Inv-loop μ-loop
 element-set-from-group c = omega arith
@@ -56,7 +56,7 @@ loop-less c = omega arith
 loop-again : tie.Need-loop-again Inv-loop μ-loop
 loop-again c =
     let l = c .before .before .before .loop in
-    let x = c .before .before .before .before .before .before .before .args .x in
+    let x = c .before .before .before .before .before .before .args .x in
     let r = c .dim-of .result in (
       omega arith,
       refl,
@@ -70,7 +70,7 @@ returns : tie.Need-returns Inv-loop μ-loop
 unfolding spelled
 returns c =
     let l = c .before .loop in
-    let s = c .before .before .before .before .before in
+    let s = c .before .before .before .before in
     let z : l .i ≡ s .args .x .all .letters .count = omega arith in (
       l .inv .3 ∙ ap (λ (n : ℕ). map (label (shapeOf (s .args .x))) (firstOf n 0 (s .args .x .all .letters .letters))) z
           ∙ ap (map (label (shapeOf (s .args .x)))) (s .pre .whole .spells .spells ∙ ap labels (s .pre .all)),
@@ -87,7 +87,7 @@ labels-of-spec =
     loop-holds
     element-copy-out-dim-of
     dim-of-requires
-    mul-t13
+    mul-t12
     element-set-from-group
     add-i
     loop-less

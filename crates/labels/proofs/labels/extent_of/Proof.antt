@@ -13,13 +13,13 @@ use Rattle.labels.proofs.labels.extent_of.Statement.{statement}
 use Rattle.labels.proofs.labels.extent_of.Tie as tie
 
 abbrev Inv-loop : tie.InvT-loop
-Inv-loop c items i₀ extent₀ i extent = (i ≤ i₀) × (extent ≡ extentOf c (from noAxis items i₀ i))
+Inv-loop c x i₀ extent₀ i extent = (i ≤ i₀) × (extent ≡ extentOf c (from noAxis (x .items) i₀ i))
 
 abbrev μ-loop : tie.MeasureT-loop
-μ-loop c items i₀ extent₀ i extent = i
+μ-loop c x i₀ extent₀ i extent = i
 
 loop-holds : tie.Need-loop-holds Inv-loop μ-loop
-loop-holds c = (omega arith, rw (from-end noAxis (c .before .args .x .items) (c .before .args .x .count)))
+loop-holds c = (omega arith, rw (from-end noAxis (c .args .t1 .items) (c .args .t1 .count)))
 
 sub-i : tie.Need-sub-i Inv-loop μ-loop
 sub-i c = omega arith
@@ -27,8 +27,8 @@ sub-i c = omega arith
 mul-a : tie.Need-mul-a Inv-loop μ-loop
 mul-a c = omega arith
 
-array-copy-out-a : tie.Need-array-copy-out-a Inv-loop μ-loop
-array-copy-out-a c = omega arith
+element-copy-out-a : tie.Need-element-copy-out-a Inv-loop μ-loop
+element-copy-out-a c = omega arith
 
 pick-requires : tie.Need-pick-requires Inv-loop μ-loop
 pick-requires c κs = search needs
@@ -39,7 +39,7 @@ loop-less c = omega arith
 loop-again : tie.Need-loop-again Inv-loop μ-loop
 loop-again c =
     let l = c .before .before .before .before .loop in
-    let x = c .before .before .before .before .before .before .args .x in
+    let x = c .before .before .before .before .before .args .t1 in
     (omega arith, rw (c .pick .ensures, l .inv .1, from-before noAxis (x .items) (x .count) (l .i) (omega arith) (omega arith)))
 
 returns : tie.Need-returns Inv-loop μ-loop
@@ -58,7 +58,7 @@ extent-of-spec =
     loop-holds
     sub-i
     mul-a
-    array-copy-out-a
+    element-copy-out-a
     pick-requires
     loop-less
     loop-again

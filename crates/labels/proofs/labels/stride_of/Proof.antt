@@ -44,13 +44,13 @@ step c a xs t few =
     go false h k = word-add (pos 0) (strideOf c xs) (omega arith) k
 
 abbrev Inv-loop : tie.InvT-loop
-Inv-loop c items i₀ sum₀ i sum = (i ≤ i₀) × (sum ≡ wordOf 64 (strideOf c (from noAxis items i₀ i)))
+Inv-loop c x i₀ sum₀ i sum = (i ≤ i₀) × (sum ≡ wordOf 64 (strideOf c (from noAxis (x .items) i₀ i)))
 
 abbrev μ-loop : tie.MeasureT-loop
-μ-loop c items i₀ sum₀ i sum = i
+μ-loop c x i₀ sum₀ i sum = i
 
 loop-holds : tie.Need-loop-holds Inv-loop μ-loop
-loop-holds c = (omega arith, rw (from-end noAxis (c .before .args .x .items) (c .before .args .x .count)))
+loop-holds c = (omega arith, rw (from-end noAxis (c .args .t1 .items) (c .args .t1 .count)))
 
 sub-i : tie.Need-sub-i Inv-loop μ-loop
 sub-i c = omega arith
@@ -58,8 +58,8 @@ sub-i c = omega arith
 mul-a : tie.Need-mul-a Inv-loop μ-loop
 mul-a c = omega arith
 
-array-copy-out-a : tie.Need-array-copy-out-a Inv-loop μ-loop
-array-copy-out-a c = omega arith
+element-copy-out-a : tie.Need-element-copy-out-a Inv-loop μ-loop
+element-copy-out-a c = omega arith
 
 address-word-requires : tie.Need-address-word-requires Inv-loop μ-loop
 address-word-requires c κs = search needs
@@ -77,8 +77,8 @@ loop-again : tie.Need-loop-again Inv-loop μ-loop
 unfolding listed stridesValid
 loop-again c =
     let l = c .before .before .before .before .before .before .before .loop in
-    let s = c .before .before .before .before .before .before .before .before .before in
-    let x = s .args .x in
+    let s = c .before .before .before .before .before .before .before .before in
+    let x = s .args .t1 in
     let a = getD (x .items) (l .i - 1) noAxis in
     let rest = from noAxis (x .items) (x .count) (l .i) in
     let next : from noAxis (x .items) (x .count) (l .i - 1) ≡ a ∷ rest = from-before noAxis (x .items) (x .count) (l .i) (omega arith) (omega arith) in
@@ -106,7 +106,7 @@ stride-of-spec =
     loop-holds
     sub-i
     mul-a
-    array-copy-out-a
+    element-copy-out-a
     address-word-requires
     pick-word-requires
     wrapping-add-u64-requires

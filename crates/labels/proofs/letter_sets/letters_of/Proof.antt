@@ -16,11 +16,11 @@ use Rattle.labels.proofs.letter_sets.letters_of.Statement.{statement}
 use Rattle.labels.proofs.letter_sets.letters_of.Tie as tie
 
 abbrev Inv-loop : tie.InvT-loop
-Inv-loop items count all₀ i₀ all i =
-    (i ≤ count) × (all .count ≤ i) × Spells all (labels (firstOf i noAxis items))
+Inv-loop x count all₀ i₀ all i =
+    (i ≤ count) × (all .count ≤ i) × Spells all (labels (firstOf i noAxis (x .items)))
 
 abbrev μ-loop : tie.MeasureT-loop
-μ-loop items count all₀ i₀ all i = count - i
+μ-loop x count all₀ i₀ all i = count - i
 
 none-requires : tie.Need-none-requires Inv-loop μ-loop
 none-requires c κs = search needs
@@ -32,14 +32,14 @@ loop-holds c = (omega arith, omega (arith, spells-count (c .none .result) [] (c 
 mul-a : tie.Need-mul-a Inv-loop μ-loop
 mul-a c = omega arith
 
-array-copy-out-a : tie.Need-array-copy-out-a Inv-loop μ-loop
-array-copy-out-a c = omega arith
+element-copy-out-a : tie.Need-element-copy-out-a Inv-loop μ-loop
+element-copy-out-a c = omega arith
 
 with-requires : tie.Need-with-requires Inv-loop μ-loop
 with-requires c κs =
     let l = c .before .before .loop in
-    let start = c .before .before .before .before .before in
-    (spells-itself (l .all) _ (l .inv .2), omega arith, letter-listed (start .args .x) (start .pre .letters) (l .i) (omega arith))
+    let start = c .before .before .before .before in
+    (spells-itself (l .all) _ (l .inv .2), omega arith, letter-listed (start .args .t1) (start .pre .letters) (l .i) (omega arith))
 
 add-i : tie.Need-add-i Inv-loop μ-loop
 add-i c = omega arith
@@ -50,14 +50,14 @@ loop-less c = omega arith
 loop-again : tie.Need-loop-again Inv-loop μ-loop
 loop-again c =
     let l = c .before .before .before .loop in
-    let x = c .before .before .before .before .before .before .args .x in
+    let x = c .before .before .before .before .before .args .t1 in
     (omega arith, omega (arith, c .with .ensures .1), rw (labels-next (x .items) (l .i), ← (l .inv .2 .spells)) (c .with .ensures .0))
 
 returns : tie.Need-returns Inv-loop μ-loop
 unfolding listed
 returns c =
     let l = c .before .loop in
-    let z : l .i ≡ c .before .before .before .before .args .x .count = omega arith in
+    let z : l .i ≡ c .before .before .before .args .t1 .count = omega arith in
     rw (← z) (l .inv .2)
 
 pub letters-of-spec : {M : Type 1} → statement M
@@ -69,7 +69,7 @@ letters-of-spec =
     none-requires
     loop-holds
     mul-a
-    array-copy-out-a
+    element-copy-out-a
     with-requires
     add-i
     loop-less

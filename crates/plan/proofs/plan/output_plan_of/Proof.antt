@@ -17,13 +17,13 @@ groups-of-requires c κs = search needs
 
 folded-requires : tie.Need-folded-requires
 folded-requires c κs =
-    let s = c .before .before .before in
-    let l = c .before .before .labels-of in
+    let s = c .before .before in
+    let l = c .before .labels-of in
     (l .ensures .1, fold-asks (s .args .c) (s .args .x) (s .pre .0) (s .pre .1) (l .result) (l .ensures .0) (s .args .x .d .letters .set))
 
 folded-requires-2 : tie.Need-folded-requires-2
 folded-requires-2 c κs =
-    let k = c .before .before in
+    let k = c .before in
     let s = k .before .before in
     let l = k .before .labels-of in
     (l .ensures .1, fold-asks (s .args .c) (s .args .x) (s .pre .0) (s .pre .1) (l .result) (l .ensures .0) (k .groups-of .result .depth))
@@ -33,7 +33,7 @@ base-of-requires c κs = search needs
 
 returns : tie.Need-returns
 returns c =
-    let k = c .before .before .before .before in
+    let k = c .before .before .before in
     let s = k .before .before in
     let l = k .before .labels-of in
     let x = s .args .x in

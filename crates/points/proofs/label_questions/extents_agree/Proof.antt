@@ -16,13 +16,13 @@ use Rattle.points.proofs.label_questions.extents_agree.Statement.{state
 use Rattle.points.proofs.label_questions.extents_agree.Tie as tie
 
 abbrev Inv-loop : tie.InvT-loop
-Inv-loop x items i₀ agree₀ i agree = (i ≤ i₀) × (agree ≡ every (λ a. eqb (a .extent) (extentOf (a .letter) (listed x))) (from noAxis items i₀ i))
+Inv-loop x i₀ agree₀ i agree = (i ≤ i₀) × (agree ≡ every (λ a. eqb (a .extent) (extentOf (a .letter) (listed x))) (from noAxis (x .items) i₀ i))
 
 abbrev μ-loop : tie.MeasureT-loop
-μ-loop x items i₀ agree₀ i agree = i
+μ-loop x i₀ agree₀ i agree = i
 
 loop-holds : tie.Need-loop-holds Inv-loop μ-loop
-loop-holds c = (omega arith, rw (from-end noAxis (c .before .args .x .items) (c .before .args .x .count)))
+loop-holds c = (omega arith, rw (from-end noAxis (c .args .t1 .items) (c .args .t1 .count)))
 
 sub-i : tie.Need-sub-i Inv-loop μ-loop
 sub-i c = omega arith
@@ -30,8 +30,8 @@ sub-i c = omega arith
 mul-a : tie.Need-mul-a Inv-loop μ-loop
 mul-a c = omega arith
 
-array-copy-out-a : tie.Need-array-copy-out-a Inv-loop μ-loop
-array-copy-out-a c = omega arith
+element-copy-out-a : tie.Need-element-copy-out-a Inv-loop μ-loop
+element-copy-out-a c = omega arith
 
 extent-of-requires : tie.Need-extent-of-requires Inv-loop μ-loop
 extent-of-requires c κs = search needs
@@ -42,7 +42,7 @@ loop-less c = omega arith
 loop-again : tie.Need-loop-again Inv-loop μ-loop
 loop-again c =
     let l = c .before .before .before .before .loop in
-    let x = c .before .before .before .before .before .before .args .x in
+    let x = c .before .before .before .before .before .args .t1 in
     (omega arith, rw (c .before .extent-of .ensures, l .inv .1, from-before noAxis (x .items) (x .count) (l .i) (omega arith) (omega arith)))
 
 returns : tie.Need-returns Inv-loop μ-loop
@@ -61,7 +61,7 @@ extents-agree-spec =
     loop-holds
     sub-i
     mul-a
-    array-copy-out-a
+    element-copy-out-a
     extent-of-requires
     loop-less
     loop-again

@@ -18,7 +18,7 @@ points-fit-requires : tie.Need-points-fit-requires
 points-fit-requires c κs = search needs
 
 all-apart-requires : tie.Need-all-apart-requires
-all-apart-requires c κs = c .before .before .before .before .pre .0 .gathered .each D
+all-apart-requires c κs = c .before .before .pre .0 .gathered .each D
 
 ask-requires : tie.Need-ask-requires
 ask-requires c κs = search needs
@@ -35,7 +35,7 @@ ask-requires-4 c κs = search needs
 returns : tie.Need-returns
 unfolding labelQuestions entryQuestions
 returns c =
-    let s = c .before .before .before .before .before .before .before .before .before in
+    let s = c .before .before .before .before .before .before .before in
     let k = c .before .before .before .before in
     let r = s .pre .0 in
     let l = r .gathered .all ∙ ap together (λ i o. r .each o i) in

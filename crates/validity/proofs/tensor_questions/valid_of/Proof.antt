@@ -14,15 +14,15 @@ use Rattle.validity.proofs.tensor_questions.valid_of.Statement.{stateme
 use Rattle.validity.proofs.tensor_questions.valid_of.Tie as tie
 
 abbrev Inv-loop : tie.InvT-loop
-Inv-loop items i₀ valid₀ i valid = (i ≤ i₀) × ValidOf (from noAxis items i₀ i) valid
+Inv-loop x i₀ valid₀ i valid = (i ≤ i₀) × ValidOf (from noAxis (x .items) i₀ i) valid
 
 abbrev μ-loop : tie.MeasureT-loop
-μ-loop items i₀ valid₀ i valid = i
+μ-loop x i₀ valid₀ i valid = i
 
 loop-holds : tie.Need-loop-holds Inv-loop μ-loop
 unfolding lettersValid extentsValid stridesValid
 loop-holds c =
-    (omega arith, rw (from-end noAxis (c .before .args .x .items) (c .before .args .x .count)) (record { letters = refl; extents = refl; strides = refl }))
+    (omega arith, rw (from-end noAxis (c .args .t1 .items) (c .args .t1 .count)) (record { letters = refl; extents = refl; strides = refl }))
 
 sub-i : tie.Need-sub-i Inv-loop μ-loop
 sub-i c = omega arith
@@ -30,8 +30,8 @@ sub-i c = omega arith
 mul-with : tie.Need-mul-with Inv-loop μ-loop
 mul-with c = omega arith
 
-array-copy-out-with : tie.Need-array-copy-out-with Inv-loop μ-loop
-array-copy-out-with c = omega arith
+element-copy-out-with : tie.Need-element-copy-out-with Inv-loop μ-loop
+element-copy-out-with c = omega arith
 
 with-requires : tie.Need-with-requires Inv-loop μ-loop
 with-requires c κs = search needs
@@ -42,7 +42,7 @@ loop-less c = omega arith
 loop-again : tie.Need-loop-again Inv-loop μ-loop
 loop-again c =
     let l = c .before .before .before .loop in
-    let x = c .before .before .before .before .before .args .x in
+    let x = c .before .before .before .before .args .t1 in
     (omega arith, rw (from-before noAxis (x .items) (x .count) (l .i) (omega arith) (omega arith)) (c .with .ensures (from noAxis (x .items) (x .count) (l .i)) (l .inv .1)))
 
 returns : tie.Need-returns Inv-loop μ-loop
@@ -61,7 +61,7 @@ valid-of-spec =
     loop-holds
     sub-i
     mul-with
-    array-copy-out-with
+    element-copy-out-with
     with-requires
     loop-less
     loop-again

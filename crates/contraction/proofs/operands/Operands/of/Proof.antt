@@ -33,31 +33,31 @@ module _ (c : Contraction) (x : Operand → Labelled) (h : ListedFrom c x) (all 
       }
 
 with-requires : tie.Need-with-requires
-with-requires c κs = let h = c .before .before .before .pre in (omega (arith, h .each D .few), h .each A .rank)
+with-requires c κs = let h = c .before .pre in (omega (arith, h .each D .few), h .each A .rank)
 
 with-requires-2 : tie.Need-with-requires-2
 with-requires-2 c κs =
-    let h = c .before .before .before .before .pre in
+    let h = c .before .before .pre in
     (omega (arith, c .with .ensures .1, h .each D .few, h .each A .rank), h .each B .rank)
 
 -- the axes of all, in their order
-all-of : (c : tie.After-with2) → let s = c .before .before .before .before .before in
+all-of : (c : tie.After-with2) → let s = c .before .before .before in
     listed (c .with2 .result) ≡ together (λ o. listed (three (s .args .a) (s .args .b) (s .args .d) o .axes))
 unfolding together
 all-of c =
-    let h = c .before .before .before .before .before .pre in
+    let h = c .before .before .before .pre in
     rw (c .with2 .ensures .0, c .before .with .ensures .0, append-assoc, h .each A .lists, h .each B .lists)
 
 of-requires : tie.Need-of-requires
 of-requires c κs =
-    let s = c .before .before .before .before .before in
+    let s = c .before .before .before in
     let h = s .pre in
     whole (s .args .c) (three (s .args .a) (s .args .b) (s .args .d)) h (c .with2 .result) (all-of c)
     (omega (arith, c .with2 .ensures .1, c .before .with .ensures .1, h .each D .few, h .each A .rank, h .each B .rank))
 
 returns : tie.Need-returns
 returns c =
-    let s = c .before .before .before .before .before .before in
+    let s = c .before .before .before .before in
     record {
       each = elim [ A ↦ s .pre .each A .lists | B ↦ s .pre .each B .lists | D ↦ s .pre .each D .lists ];
       gathered =

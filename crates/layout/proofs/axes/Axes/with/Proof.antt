@@ -16,33 +16,33 @@ use Rattle.layout.proofs.axes.Axes.with.Statement.{statement}
 use Rattle.layout.proofs.axes.Axes.with.Tie as tie
 
 abbrev Inv-loop : tie.InvT-loop
-Inv-loop start rank from items₀ i₀ items i =
-    (i ≤ rank) × (length items ≡ axesLimit)
-    × (firstOf (start + i) noAxis items ≡ firstOf start noAxis items₀ ++ firstOf i noAxis from)
+Inv-loop l start rank out₀ i₀ out i =
+    (i ≤ rank) × (length (out .items) ≡ axesLimit)
+    × (firstOf (start + i) noAxis (out .items) ≡ firstOf start noAxis (out₀ .items) ++ firstOf i noAxis (l .axes))
 
 abbrev μ-loop : tie.MeasureT-loop
-μ-loop start rank from items₀ i₀ items i = rank - i
+μ-loop l start rank out₀ i₀ out i = rank - i
 
 loop-holds : tie.Need-loop-holds Inv-loop μ-loop
 loop-holds c =
-    let self = c .before .before .args .self in
-    let len : length (self .items) ≡ axesLimit = rw length-map at (c .before .before .good .0 .1 .1 .0 .1 .0 .1) in
+    let self = c .args .self in
+    let len : length (self .items) ≡ axesLimit = rw length-map at (c .good .0 .1 .1 .0 .1 .0 .1) in
     (omega arith, len, rw (add-zero (self .count)) (sym (append-nil (firstOf (self .count) noAxis (self .items)))))
 
-mul-items : tie.Need-mul-items Inv-loop μ-loop
-mul-items c = omega arith
+add-at : tie.Need-add-at Inv-loop μ-loop
+add-at c = omega arith
 
-array-copy-out-items : tie.Need-array-copy-out-items Inv-loop μ-loop
-array-copy-out-items c = omega arith
+mul-out : tie.Need-mul-out Inv-loop μ-loop
+mul-out c = omega arith
 
-add-items : tie.Need-add-items Inv-loop μ-loop
-add-items c = omega arith
+element-copy-out-out : tie.Need-element-copy-out-out Inv-loop μ-loop
+element-copy-out-out c = omega arith
 
-mul-items-2 : tie.Need-mul-items-2 Inv-loop μ-loop
-mul-items-2 c = omega arith
+mul-t14 : tie.Need-mul-t14 Inv-loop μ-loop
+mul-t14 c = omega arith
 
-array-set-from-items : tie.Need-array-set-from-items Inv-loop μ-loop
-array-set-from-items c = omega arith
+element-set-from-out : tie.Need-element-set-from-out Inv-loop μ-loop
+element-set-from-out c = omega arith
 
 add-i : tie.Need-add-i Inv-loop μ-loop
 add-i c = omega arith
@@ -53,22 +53,22 @@ loop-less c = omega arith
 loop-again : tie.Need-loop-again Inv-loop μ-loop
 loop-again c =
     let l = c .before .before .loop in
-    let a = c .before .before .before .before .before .args in
+    let a = c .before .before .before .args in
     let start = a .self .count in
-    let x = getD (a .l .axes) (l .i) noAxis in (
+    let x = getD (a .t2 .axes) (l .i) noAxis in (
       omega arith,
-      length-set (l .items) (start + l .i) x ∙ l .inv .1,
-      rw (← (add-assoc start (l .i) 1), firstOf-push noAxis (l .items) (start + l .i) x (omega (arith, l .inv .1)), l .inv .2, firstOf-suc (l .i) noAxis (a .l .axes), append-assoc),
+      length-set (l .out .items) (start + l .i) x ∙ l .inv .1,
+      rw (← (add-assoc start (l .i) 1), firstOf-push noAxis (l .out .items) (start + l .i) x (omega (arith, l .inv .1)), l .inv .2, firstOf-suc (l .i) noAxis (a .t2 .axes), append-assoc),
     )
 
-add-t18 : tie.Need-add-t18 Inv-loop μ-loop
-add-t18 c = omega arith
+add-out : tie.Need-add-out Inv-loop μ-loop
+add-out c = omega arith
 
 returns : tie.Need-returns Inv-loop μ-loop
 unfolding listed axes
 returns c =
     let l = c .before .loop in
-    let z : l .i ≡ c .before .before .before .before .args .l .«letter_count» = omega arith in
+    let z : l .i ≡ c .before .before .args .t2 .«letter_count» = omega arith in
     (rw (← z) (l .inv .2), refl)
 
 pub with-spec : {M : Type 1} → statement M
@@ -78,13 +78,13 @@ with-spec =
     Inv-loop
     μ-loop
     loop-holds
-    mul-items
-    array-copy-out-items
-    add-items
-    mul-items-2
-    array-set-from-items
+    add-at
+    mul-out
+    element-copy-out-out
+    mul-t14
+    element-set-from-out
     add-i
     loop-less
     loop-again
-    add-t18
+    add-out
     returns)
