@@ -38,14 +38,13 @@ pub as-label : (x : Operands) → Gathered x → (c : ℕ)
     → asLabel
     (record {
       letter = c;
-      extent = extentOf c (listed (x .all .axes));
+      extent = extentOf c (together (shapeOf x));
       a = wordOf 64 (strideOf c (listed (x .a .axes)));
       b = wordOf 64 (strideOf c (listed (x .b .axes)));
       d = wordOf 64 (strideOf c (listed (x .d .axes)));
     })
     ≡ label (shapeOf x) c
 as-label x h c =
-    rw (ap (extentOf c) (h .all))
     (ap (λ (f : Operand → ℤ). record { letter = c; extent = extentOf c (together (shapeOf x)); stride = f }) (fun-ext same))
   where
     word : (o : Operand) → signed 64 (wordOf 64 (strideOf c (shapeOf x o))) ≡ strideOf c (shapeOf x o)

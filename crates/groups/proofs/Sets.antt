@@ -11,7 +11,6 @@ use Rattle.words.proofs.Lists.{T-true, all-imp, all-both, all-map, distinct-mem
 use Rattle.words.proofs.Sums.{every-all}
 use Rattle.layout.specs.declared.layout.Axis.{Axis}
 use Rattle.layout.specs.Layout.{lettersOf}
-use Rattle.layout.specs.Listed.{listed}
 use Rattle.validity.specs.Letters.{isLetter}
 use Rattle.validity.specs.TensorQuestions.{lettersValid}
 use Rattle.labels.specs.declared.letter_sets.Letters.{Letters}
@@ -20,6 +19,7 @@ use Rattle.labels.specs.LetterSets.{has, Spells}
 use Rattle.contraction.specs.declared.operands.Operands.{Operands}
 use Rattle.contraction.specs.Operands.{Operand, A, B, D, together}
 use Rattle.contraction.specs.TensorAxes.{shapeOf, Gathered}
+use Rattle.contraction.proofs.Together.{every-together}
 use Rattle.groups.specs.declared.groups.Sets.{Sets}
 use Rattle.groups.specs.Groups.{Group, batch, row, column, depth, groupBy, groupOf, groupNumber, inGroup, group, outputs, label, letters}
 use Rattle.groups.specs.Sets.{Split, setsIn}
@@ -65,10 +65,11 @@ module _ (x : Operands) (h : Gathered x) where
   valid : All (λ c. isLetter c ≡ true) (labels (together (shapeOf x)))
   unfolding labels lettersValid
   valid =
-      rw (← h .all)
-      (all-once (λ c. isLetter c ≡ true) (lettersOf (listed (x .all .axes)))
-      (all-map (λ c. isLetter c ≡ true) (λ (a : Axis). a .letter) (listed (x .all .axes))
-      (all-imp (λ a. T-true (isLetter (a .letter))) (listed (x .all .axes)) (every-all (λ (a : Axis). isLetter (a .letter)) (listed (x .all .axes)) (h .whole .checked .letters)))))
+      let xs = together (shapeOf x) in
+      all-once (λ c. isLetter c ≡ true) (lettersOf xs)
+      (all-map (λ c. isLetter c ≡ true) (λ (a : Axis). a .letter) xs
+      (all-imp (λ a. T-true (isLetter (a .letter))) xs
+      (every-all (λ (a : Axis). isLetter (a .letter)) xs (every-together (λ (a : Axis). isLetter (a .letter)) (shapeOf x) (λ o. h .each o .checked .letters)))))
 
   -- the labels of the letters that D's set has are D's labels
   pub kept-output : (l : Letters) → Spells l (labels (shapeOf x D)) → map (label (shapeOf x)) (keep (has (l .set)) (labels (together (shapeOf x)))) ≡ outputs (shapeOf x)

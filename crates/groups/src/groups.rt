@@ -11,7 +11,6 @@ ghost use Rattle.groups.specs.Held.{asLabel, labelsIn};
 ghost use Rattle.groups.specs.Foldable.{Foldable};
 ghost use Rattle.groups.specs.Sets.{Split, Grouped};
 use contraction::operands::Operands;
-use labels::labels::extent_of;
 use labels::labels::stride_of;
 use limits::limits::Limits;
 
@@ -67,7 +66,7 @@ fn dim_of(x: Operands, c: u8) -> Dim
 {
     Dim {
         letter: c,
-        extent: extent_of(x.all.axes, c),
+        extent: x.extent(c),
         a: stride_of(x.a.axes, c),
         b: stride_of(x.b.axes, c),
         d: stride_of(x.d.axes, c),
@@ -122,7 +121,7 @@ pub fn labels_of(x: Operands) -> Group
     requires { ⌜ Gathered x ⌝ }
     ensures { λ r. ⌜ (labelsIn r ≡ map (label (shapeOf x)) (labels (together (shapeOf x)))) × (r .count ≤ axesLimit) ⌝ }
 {
-    let letters = x.all.letters;
+    let letters = x.letters;
     let count = letters.count;
     let mut group = Group::none();
     let mut i: usize = 0;

@@ -12,7 +12,7 @@ use lib.ListN.{length}
 use Rattle.words.specs.Words.{up, down, wordOf, signed}
 use Rattle.words.proofs.Sums.{and-split}
 use Rattle.words.proofs.Whole.{size-add, size-parts, signed-word}
-use Rattle.limits.specs.Limits.{extentLimit, strideLimit, axesLimit}
+use Rattle.limits.specs.Limits.{rankLimit, extentLimit, strideLimit}
 use Rattle.layout.specs.declared.layout.Axis.{Axis}
 use Rattle.layout.specs.declared.axes.Axes.{Axes}
 use Rattle.layout.specs.Listed.{listed}
@@ -46,8 +46,8 @@ strides-bound (a ∷ xs) t c =
     go true l = l
     go false l = omega arith
 
-module _ (x : Axes) (few : x .count ≤ axesLimit) (valid : T (stridesValid (listed x))) (c : ℕ) where
-  pub small-stride : natAbs (strideOf c (listed x)) < 2 ^ 30
+module _ (x : Axes) (few : x .count ≤ rankLimit) (valid : T (stridesValid (listed x))) (c : ℕ) where
+  pub small-stride : natAbs (strideOf c (listed x)) < 2 ^ 28
   small-stride = omega (arith, strides-bound (listed x) valid c, length-listed x)
 
   -- a label's stride is what its address word reads as

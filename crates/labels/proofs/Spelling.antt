@@ -3,7 +3,7 @@
 -- Assumes nothing.
 use mathlib.Core.Path.{_≡_, refl, sym, ap, subst, _∙_}
 use mathlib.Core.Bool.{Bool, true, false, cond, not, _&&_, _||_, true≢false}
-use mathlib.Core.List.{List, [], _∷_, _++_, append-nil, map-append}
+use mathlib.Core.List.{List, [], _∷_, _++_, append-nil, append-assoc, map-append}
 use Prim.Native.Nat.{ℕ, _+_, _%_, _≤_, _<_}
 use native.Mathlib.Omega.{arith}
 use borrow.Author.Tests.{leb-true}
@@ -94,13 +94,16 @@ pub letter-listed : (x : Axes) → T (lettersValid (listed x)) → (i : ℕ) →
 unfolding lettersValid
 letter-listed x t i h = T-true _ (every-listed (λ a. isLetter (a .letter)) x t i h)
 
--- the labels of the first axes, with one more behind them
-pub labels-next : (xs : List Axis) (i : ℕ) → labels (firstOf (i + 1) noAxis xs) ≡ added (getD xs i noAxis .letter) (labels (firstOf i noAxis xs))
+-- the labels of axes, with one axis more behind them
+labels-behind : (xs : List Axis) (a : Axis) → labels (xs ++ a ∷ []) ≡ added (a .letter) (labels xs)
 unfolding labels
-labels-next xs i =
-    let ys = firstOf i noAxis xs in
-    let x = getD xs i noAxis in
-    ap (λ xs. distinct (lettersOf xs)) (firstOf-suc i noAxis xs) ∙ ap distinct (map-append (λ a. a .letter) ys (x ∷ [])) ∙ distinct-next (lettersOf ys) (x .letter)
+labels-behind xs a = ap distinct (map-append (λ a. a .letter) xs (a ∷ [])) ∙ distinct-next (lettersOf xs) (a .letter)
+
+-- and of the first of other axes behind them, with the next one
+pub labels-next : (xs ys : List Axis) (i : ℕ) → labels (xs ++ firstOf (i + 1) noAxis ys) ≡ added (getD ys i noAxis .letter) (labels (xs ++ firstOf i noAxis ys))
+labels-next xs ys i =
+    ap (λ zs. labels (xs ++ zs)) (firstOf-suc i noAxis ys) ∙ ap labels (sym (append-assoc xs (firstOf i noAxis ys) (getD ys i noAxis ∷ [])))
+    ∙ labels-behind (xs ++ firstOf i noAxis ys) (getD ys i noAxis)
 
 -- the code's list spells what it holds, as many letters as it counts
 pub spells-itself : (x : Letters) (cs : List ℕ) → Spells x cs → Spells x (spelled x)

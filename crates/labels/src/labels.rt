@@ -1,26 +1,36 @@
 ghost use mathlib.Core.Path.{_≡_};
 ghost use mathlib.Core.Bool.{cond};
+ghost use mathlib.Core.List.{List, _++_};
 ghost use Prim.Native.Nat.{_-_, _≤_};
 ghost use Rattle.words.specs.Words.{wordOf};
-ghost use Rattle.limits.specs.Limits.{axesLimit};
+ghost use Rattle.limits.specs.Limits.{rankLimit};
+ghost use Rattle.layout.specs.declared.layout.Axis.{Axis};
 ghost use Rattle.layout.specs.Listed.{listed};
 ghost use Rattle.validity.specs.Checked.{Checked};
 ghost use Rattle.labels.specs.Labels.{strideOf, extentOf};
 use layout::axes::Axes;
 
-// The extent of a letter where it first occurs, 1 where it is absent. From the last axis to the first.
-pub fn extent_of(x: Axes, c: u8) -> u32
-    requires { ⌜ x .count ≤ axesLimit ⌝ }
-    ensures { λ r. ⌜ r ≡ extentOf c (listed x) ⌝ }
+// The extent of a letter where it first occurs, `other` where it is absent. From the last axis to the first.
+pub fn extent_or(x: Axes, c: u8, other: u32) -> u32
+    requires { ⌜ x .count ≤ rankLimit ⌝ }
+    ensures { λ r. ⌜ ((ys : List Axis) → other ≡ extentOf c ys → r ≡ extentOf c (listed x ++ ys)) ⌝ }
 {
     let mut i = x.count;
-    let mut extent: u32 = 1;
+    let mut extent = other;
     while 0 < i {
         i -= 1;
         let a = x.items[i];
         extent = pick(a.letter == c, a.extent, extent);
     }
     extent
+}
+
+// The extent of a letter where it first occurs, 1 where it is absent.
+pub fn extent_of(x: Axes, c: u8) -> u32
+    requires { ⌜ x .count ≤ rankLimit ⌝ }
+    ensures { λ r. ⌜ r ≡ extentOf c (listed x) ⌝ }
+{
+    extent_or(x, c, 1)
 }
 
 // The sum of the strides of a letter, as an address word.

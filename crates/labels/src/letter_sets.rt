@@ -1,9 +1,10 @@
 ghost use mathlib.Core.Path.{_≡_};
-ghost use mathlib.Core.List.{[]};
+ghost use mathlib.Core.List.{List, [], _++_};
 ghost use mathlib.Core.Bool.{true, _||_};
 ghost use Prim.Native.Nat.{ℕ, _+_, _%_, _<_, _≤_};
 ghost use lib.Dec.{eqb};
-ghost use Rattle.limits.specs.Limits.{axesLimit};
+ghost use Rattle.limits.specs.Limits.{rankLimit, axesLimit};
+ghost use Rattle.layout.specs.declared.layout.Axis.{Axis};
 ghost use Rattle.layout.specs.Listed.{listed};
 ghost use Rattle.validity.specs.Letters.{isLetter};
 ghost use Rattle.validity.specs.Checked.{Checked};
@@ -71,22 +72,23 @@ impl Letters {
             set: insert(set, code),
         }
     }
-}
 
-// The different letters of the axes, in order of first appearance.
-pub fn letters_of(x: Axes) -> Letters
-    requires { ⌜ Checked x ⌝ }
-    ensures { λ r. ⌜ Spells r (labels (listed x)) ⌝ }
-{
-    let count = x.count;
-    let mut all = Letters::none();
-    let mut i: usize = 0;
-    while i < count {
-        let a = x.items[i];
-        all = all.with(a.letter);
-        i += 1;
+    // The letters with those of axes behind them, each unless it is there, in order of first appearance.
+    pub fn with_axes(self, x: Axes) -> Letters
+        requires { ⌜ Spells self (spelled self) × Checked x × (self .count + rankLimit ≤ axesLimit) ⌝ }
+        ensures { λ r. ⌜ ((xs : List Axis) → Spells self (labels xs) → Spells r (labels (xs ++ listed x)))
+            × (r .count ≤ self .count + x .count) ⌝ }
+    {
+        let count = x.count;
+        let mut all = self;
+        let mut i: usize = 0;
+        while i < count {
+            let a = x.items[i];
+            all = all.with(a.letter);
+            i += 1;
+        }
+        all
     }
-    all
 }
 
 // A list of axes beside its different letters.
@@ -109,9 +111,7 @@ impl Labelled {
         requires { ⌜ Checked axes ⌝ }
         ensures { λ r. ⌜ Lettered r × (r .axes ≡ axes) ⌝ }
     {
-        Labelled {
-            axes,
-            letters: letters_of(axes),
-        }
+        let letters = Letters::none().with_axes(axes);
+        Labelled { axes, letters }
     }
 }

@@ -1,27 +1,38 @@
 ghost use mathlib.Core.Path.{_≡_};
 ghost use Prim.Native.Nat.{_+_, _*_, min, _≤_};
-ghost use Rattle.limits.specs.Limits.{productLimit, axesLimit};
+ghost use lib.Dec.{eqb};
+ghost use Rattle.words.specs.Sums.{every};
+ghost use Rattle.limits.specs.Limits.{rankLimit, productLimit};
 ghost use Rattle.layout.specs.Listed.{listed};
-ghost use Rattle.labels.specs.Lettered.{Lettered};
+ghost use Rattle.labels.specs.Labels.{extentOf};
+ghost use Rattle.contraction.specs.Operands.{together};
+ghost use Rattle.contraction.specs.TensorAxes.{shapeOf, Gathered};
 ghost use Rattle.points.specs.LabelQuestions.{extentsAgree, pointsFit};
-use labels::labels::extent_of;
-use labels::letter_sets::Labelled;
+use contraction::operands::Operands;
 use layout::axes::Axes;
 use limits::limits::Limits;
 
-// Question 6.
-pub fn extents_agree(x: Axes) -> bool
-    requires { ⌜ x .count ≤ axesLimit ⌝ }
-    ensures { λ r. ⌜ r ≡ extentsAgree (listed x) ⌝ }
+// Have the axes of a tensor the extents of their labels?
+fn extents_as(x: Operands, t: Axes) -> bool
+    requires { ⌜ Gathered x × (t .count ≤ rankLimit) ⌝ }
+    ensures { λ r. ⌜ r ≡ every (λ a. eqb (a .extent) (extentOf (a .letter) (together (shapeOf x)))) (listed t) ⌝ }
 {
-    let mut i = x.count;
+    let mut i = t.count;
     let mut agree = true;
     while 0 < i {
         i -= 1;
-        let a = x.items[i];
-        agree = (a.extent == extent_of(x, a.letter)) & agree;
+        let a = t.items[i];
+        agree = (a.extent == x.extent(a.letter)) & agree;
     }
     agree
+}
+
+// Question 6.
+pub fn extents_agree(x: Operands) -> bool
+    requires { ⌜ Gathered x ⌝ }
+    ensures { λ r. ⌜ r ≡ extentsAgree (together (shapeOf x)) ⌝ }
+{
+    extents_as(x, x.d.axes) & (extents_as(x, x.a.axes) & extents_as(x, x.b.axes))
 }
 
 // A product that stops growing just above the limit.
@@ -38,16 +49,16 @@ fn capped(extent: u32, product: u64) -> u64
 }
 
 // Question 7.
-pub fn points_fit(x: Labelled) -> bool
-    requires { ⌜ Lettered x ⌝ }
-    ensures { λ r. ⌜ r ≡ pointsFit (listed (x .axes)) ⌝ }
+pub fn points_fit(x: Operands) -> bool
+    requires { ⌜ Gathered x ⌝ }
+    ensures { λ r. ⌜ r ≡ pointsFit (together (shapeOf x)) ⌝ }
 {
     let all = x.letters;
     let mut i = all.count;
     let mut product: u64 = 1;
     while 0 < i {
         i -= 1;
-        product = capped(extent_of(x.axes, all.letters[i]), product);
+        product = capped(x.extent(all.letters[i]), product);
     }
     product <= Limits::PRODUCT
 }

@@ -11,18 +11,11 @@ use native.Mathlib.Omega.{arith}
 use lib.Dec.{eqb}
 use borrow.Author.Tests.{eq-eqb, ne-eqb}
 use Rattle.words.specs.Sums.{every}
+use Rattle.words.proofs.Sums.{every-and}
 use Rattle.layout.specs.Layout.{axes}
 use Rattle.validity.specs.TensorQuestions.{rankFits, countsMatch, lettersValid, extentsValid, sizesValid}
 use Rattle.questions.specs.Questions.{Lent, refusal, tensorQuestions}
 use Rattle.questions.specs.Answers.{sooner}
-
-pub every-and : {X : Type 0} (p : X → Bool) (xs ys : List X) → every p (xs ++ ys) ≡ (every p xs && every p ys)
-every-and p [] ys = refl
-every-and p (x ∷ xs) ys = go (p x) (every-and p xs ys)
-  where
-    go : (b : Bool) → every p (xs ++ ys) ≡ (every p xs && every p ys) → (b && every p (xs ++ ys)) ≡ ((b && every p xs) && every p ys)
-    go true e = e
-    go false e = refl
 
 -- none, or asked after question k
 abbrev Later : ℕ → ℕ → Type 0

@@ -11,6 +11,7 @@ use contraction::contraction::Lengths;
 use contraction::operands::Operands;
 use entries::apart::all_apart;
 use labels::letter_sets::Labelled;
+use labels::letter_sets::Letters;
 use points::label_questions::extents_agree;
 use points::label_questions::points_fit;
 
@@ -25,8 +26,8 @@ fn later_refusal(c: Contraction, n: Lengths, x: Operands, within: bool) -> u32
     requires { ⌜ Ready c x × (within ≡ entriesInside (lentTensors (tensors c) (lengths n))) ⌝ }
     ensures { λ r. ⌜ r ≡ refusal (labelQuestions (tensors c) (lengths n) ++ entryQuestions (tensors c) (lengths n)) ⌝ }
 {
-    let agree = extents_agree(x.all.axes);
-    let fit = points_fit(x.all);
+    let agree = extents_agree(x);
+    let fit = points_fit(x);
     let apart = all_apart(x.d);
     ask(6, agree, ask(7, fit, ask(8, within, ask(9, apart, 0))))
 }
@@ -46,11 +47,11 @@ pub fn first_no(c: Contraction, n: Lengths) -> Listed
             a: none,
             b: none,
             d: none,
-            all: none,
+            letters: Letters::none(),
         };
         return Listed { number, lists };
     }
-    let lists = Operands::of(c, a.lists, b.lists, d.lists);
+    let lists = Operands::of(a.lists, b.lists, d.lists);
     let number = later_refusal(c, n, lists, answer.inside);
     Listed { number, lists }
 }

@@ -4,7 +4,7 @@ use Prim.Native.Nat.{_≤_}
 use mathlib.Core.Path.{_≡_}
 use mathlib.Core.List.{List}
 use lib.Dec.{T}
-use Rattle.limits.specs.Limits.{axesLimit}
+use Rattle.limits.specs.Limits.{rankLimit}
 use Rattle.layout.specs.declared.layout.Axis.{Axis}
 use Rattle.layout.specs.declared.axes.Axes.{Axes}
 use Rattle.layout.specs.Listed.{listed}
@@ -13,7 +13,7 @@ use Rattle.validity.specs.TensorQuestions.{lettersValid, extentsValid, s
 
 -- what the code of questions 6 to 9 may assume: questions 1 and 3 to 5 passed
 pub record Checked (x : Axes) : Type 0 where
-  pub few : x .count ≤ axesLimit
+  pub few : x .count ≤ rankLimit
   pub letters : T (lettersValid (listed x))
   pub extents : T (extentsValid (listed x))
   pub strides : T (stridesValid (listed x))

@@ -3,7 +3,7 @@ ghost use mathlib.Core.List.{List, _∷_};
 ghost use Prim.Native.Nat.{_+_, _≤_};
 ghost use lib.Dec.{leb};
 ghost use lib.IntN.{natAbs};
-ghost use Rattle.limits.specs.Limits.{strideLimit, axesLimit};
+ghost use Rattle.limits.specs.Limits.{rankLimit, strideLimit};
 ghost use Rattle.layout.specs.declared.layout.Axis.{Axis};
 ghost use Rattle.layout.specs.Listed.{listed};
 ghost use Rattle.layout.specs.Layout.{axes};
@@ -58,7 +58,7 @@ impl Valid {
 
 // Questions 3 and 4, and question 5 of the strides.
 pub fn valid_of(x: Axes) -> Valid
-    requires { ⌜ x .count ≤ axesLimit ⌝ }
+    requires { ⌜ x .count ≤ rankLimit ⌝ }
     ensures { λ r. ⌜ ValidOf (listed x) r ⌝ }
 {
     let mut i = x.count;

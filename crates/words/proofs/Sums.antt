@@ -75,6 +75,15 @@ every-drop p zero xs t = t
 every-drop p (suc i) [] t = t
 every-drop p (suc i) (x ∷ xs) t = every-drop p i xs (and-split (p x) (every p xs) t .1)
 
+-- a test at every member of one list behind the other
+pub every-and : {X : Type 0} (p : X → Bool) (xs ys : List X) → every p (xs ++ ys) ≡ (every p xs && every p ys)
+every-and p [] ys = refl
+every-and p (x ∷ xs) ys = go (p x) (every-and p xs ys)
+  where
+    go : (b : Bool) → every p (xs ++ ys) ≡ (every p xs && every p ys) → (b && every p (xs ++ ys)) ≡ ((b && every p xs) && every p ys)
+    go true e = e
+    go false e = refl
+
 -- a test that passes at every member of two lists passes at every member of one behind the other
 pub every-append : {X : Type 0} (p : X → Bool) (xs ys : List X) → T (every p xs) → T (every p ys) → T (every p (xs ++ ys))
 every-append p [] ys t u = u

@@ -19,7 +19,7 @@ size c =
     let reads = signed-stride (start .args .x) (start .pre .few) (start .pre .strides) (start .args .c) in
     rw (c .before .up .ensures, c .down .ensures, c .before .before .stride-of .ensures, reads) (sym (size-parts s))
 
-small : (c : tie.After-down) → strideSize (listed (c .before .before .before .args .x)) (c .before .before .before .args .c) < 2 ^ 30
+small : (c : tie.After-down) → strideSize (listed (c .before .before .before .args .x)) (c .before .before .before .args .c) < 2 ^ 28
 small c = let start = c .before .before .before in small-stride (start .args .x) (start .pre .few) (start .pre .strides) (start .args .c)
 
 stride-of-requires : tie.Need-stride-of-requires

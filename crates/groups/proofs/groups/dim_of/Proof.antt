@@ -6,8 +6,8 @@ use Rattle.groups.proofs.LabelLists.{as-label}
 use Rattle.groups.proofs.groups.dim_of.Statement.{statement}
 use Rattle.groups.proofs.groups.dim_of.Tie as tie
 
-extent-of-requires : tie.Need-extent-of-requires
-extent-of-requires c κs = search needs
+extent-requires : tie.Need-extent-requires
+extent-requires c κs = search needs
 
 stride-of-requires : tie.Need-stride-of-requires
 stride-of-requires c κs = c .before .pre .each A .checked
@@ -21,14 +21,14 @@ stride-of-requires-3 c κs = c .before .before .before .pre .each D .checked
 returns : tie.Need-returns
 returns c =
     let s = c .before .before .before .before in
-    rw (c .before .before .before .extent-of .ensures, c .before .before .stride-of .ensures, c .before .stride-of2 .ensures, c .stride-of3 .ensures)
+    rw (c .before .before .before .extent .ensures, c .before .before .stride-of .ensures, c .before .stride-of2 .ensures, c .stride-of3 .ensures)
     (as-label (s .args .x) (s .pre) (s .args .c))
 
 pub dim-of-spec : {M : Type 1} → statement M
 dim-of-spec =
     tie.close
     (tie.spec
-    extent-of-requires
+    extent-requires
     stride-of-requires
     stride-of-requires-2
     stride-of-requires-3

@@ -63,7 +63,7 @@ loop-again c =
       length-set (l .group .dims) (l .i) r ∙ l .inv .2,
       labels-push (l .group .dims) (l .i) r (omega arith)
           ∙ ap (λ (g : List Label). g ++ asLabel r ∷ []) (ap (λ (n : ℕ). labelsIn (holding (l .group .dims) n)) (sym (l .inv .1)) ∙ l .inv .3)
-          ∙ pushed (label (shapeOf x)) (x .all .letters .letters) (l .i) (c .dim-of .ensures),
+          ∙ pushed (label (shapeOf x)) (x .letters .letters) (l .i) (c .dim-of .ensures),
     )
 
 returns : tie.Need-returns Inv-loop μ-loop
@@ -71,10 +71,10 @@ unfolding spelled
 returns c =
     let l = c .before .loop in
     let s = c .before .before .before .before in
-    let z : l .i ≡ s .args .x .all .letters .count = omega arith in (
-      l .inv .3 ∙ ap (λ (n : ℕ). map (label (shapeOf (s .args .x))) (firstOf n 0 (s .args .x .all .letters .letters))) z
-          ∙ ap (map (label (shapeOf (s .args .x)))) (s .pre .whole .spells .spells ∙ ap labels (s .pre .all)),
-      omega (arith, s .pre .whole .spells .few),
+    let z : l .i ≡ s .args .x .letters .count = omega arith in (
+      l .inv .3 ∙ ap (λ (n : ℕ). map (label (shapeOf (s .args .x))) (firstOf n 0 (s .args .x .letters .letters))) z
+          ∙ ap (map (label (shapeOf (s .args .x)))) (s .pre .all .spells),
+      omega (arith, s .pre .all .few),
     )
 
 pub labels-of-spec : {M : Type 1} → statement M

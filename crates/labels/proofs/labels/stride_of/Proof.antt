@@ -17,7 +17,7 @@ use Rattle.words.specs.Words.{wordOf}
 use Rattle.words.proofs.Sums.{and-split, every-drop}
 use Rattle.words.proofs.Tabulate.{from, from-end, from-before}
 use Rattle.words.proofs.Whole.{word-add}
-use Rattle.limits.specs.Limits.{strideLimit, axesLimit}
+use Rattle.limits.specs.Limits.{rankLimit, strideLimit}
 use Rattle.layout.specs.declared.layout.Axis.{Axis}
 use Rattle.layout.specs.Layout.{noAxis}
 use Rattle.layout.specs.Listed.{listed}
@@ -29,7 +29,7 @@ use Rattle.labels.proofs.labels.stride_of.Statement.{statement}
 use Rattle.labels.proofs.labels.stride_of.Tie as tie
 
 -- the sum with one axis more
-step : (c : ℕ) (a : Axis) (xs : List Axis) → T (stridesValid (a ∷ xs)) → length xs ≤ axesLimit
+step : (c : ℕ) (a : Axis) (xs : List Axis) → T (stridesValid (a ∷ xs)) → length xs ≤ rankLimit
     → (cond (eqb (a .letter) c) (wordOf 64 (a .stride)) 0 + wordOf 64 (strideOf c xs)) % 2 ^ 64 ≡ wordOf 64 (strideOf c (a ∷ xs))
 unfolding stridesValid
 step c a xs t few =
@@ -83,7 +83,7 @@ loop-again c =
     let rest = from noAxis (x .items) (x .count) (l .i) in
     let next : from noAxis (x .items) (x .count) (l .i - 1) ≡ a ∷ rest = from-before noAxis (x .items) (x .count) (l .i) (omega arith) (omega arith) in
     let valid = every-drop (λ a. leb (natAbs (a .stride)) strideLimit) (l .i - 1) (listed x) (s .pre .strides) in
-    let few : length rest ≤ axesLimit = omega (arith, length-drop (l .i) (listed x), length-listed x, s .pre .few) in
+    let few : length rest ≤ rankLimit = omega (arith, length-drop (l .i) (listed x), length-listed x, s .pre .few) in
     let same = toZ-ofZ w32 (a .stride) (record { sfits = c .before .before .before .before .struct-told .given .1 .1 .0 .1 }) in (
       omega arith,
       rw (c .wrapping-add-u64 .ensures, c .before .pick-word .ensures, c .before .before .before .address-word .ensures, same, l .inv .1, next)

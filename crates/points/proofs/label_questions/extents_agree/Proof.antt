@@ -1,68 +1,37 @@
--- `extents_agree` meets its contract. The loop goes from the last axis to the first, as `every` does; its invariant: the answer so far
--- is the test of the axes from i on. The measure is i.
+-- `extents_agree` meets its contract: the axes of all are D's, then A's, then B's.
 -- Assumes nothing.
-use mathlib.Core.Path.{_≡_}
-use Prim.Native.Nat.{_≤_}
-use native.Mathlib.Omega.{arith}
-use borrow.Author.Needs.{needs}
+use mathlib.Core.Path.{sym, ap, _∙_}
+use mathlib.Core.Bool.{Bool, _&&_}
+use mathlib.Core.List.{_++_}
 use lib.Dec.{eqb}
 use Rattle.words.specs.Sums.{every}
-use Rattle.words.proofs.Tabulate.{from, from-end, from-before}
-use Rattle.layout.specs.Layout.{noAxis}
-use Rattle.layout.specs.Listed.{listed}
+use Rattle.words.proofs.Sums.{every-and}
+use Rattle.layout.specs.declared.layout.Axis.{Axis}
 use Rattle.labels.specs.Labels.{extentOf}
+use Rattle.contraction.specs.Operands.{A, B, D, together}
+use Rattle.contraction.specs.TensorAxes.{shapeOf}
 use Rattle.points.specs.LabelQuestions.{extentsAgree}
 use Rattle.points.proofs.label_questions.extents_agree.Statement.{statement}
 use Rattle.points.proofs.label_questions.extents_agree.Tie as tie
 
-abbrev Inv-loop : tie.InvT-loop
-Inv-loop x i₀ agree₀ i agree = (i ≤ i₀) × (agree ≡ every (λ a. eqb (a .extent) (extentOf (a .letter) (listed x))) (from noAxis (x .items) i₀ i))
+extents-as-requires : tie.Need-extents-as-requires
+extents-as-requires c κs = (c .pre, c .pre .each D .checked .few)
 
-abbrev μ-loop : tie.MeasureT-loop
-μ-loop x i₀ agree₀ i agree = i
+extents-as-requires-2 : tie.Need-extents-as-requires-2
+extents-as-requires-2 c κs = let p = c .before .pre in (p, p .each A .checked .few)
 
-loop-holds : tie.Need-loop-holds Inv-loop μ-loop
-loop-holds c = (omega arith, rw (from-end noAxis (c .args .t1 .items) (c .args .t1 .count)))
+extents-as-requires-3 : tie.Need-extents-as-requires-3
+extents-as-requires-3 c κs = let p = c .before .before .pre in (p, p .each B .checked .few)
 
-sub-i : tie.Need-sub-i Inv-loop μ-loop
-sub-i c = omega arith
-
-mul-a : tie.Need-mul-a Inv-loop μ-loop
-mul-a c = omega arith
-
-element-copy-out-a : tie.Need-element-copy-out-a Inv-loop μ-loop
-element-copy-out-a c = omega arith
-
-extent-of-requires : tie.Need-extent-of-requires Inv-loop μ-loop
-extent-of-requires c κs = search needs
-
-loop-less : tie.Need-loop-less Inv-loop μ-loop
-loop-less c = omega arith
-
-loop-again : tie.Need-loop-again Inv-loop μ-loop
-loop-again c =
-    let l = c .before .before .before .before .loop in
-    let x = c .before .before .before .before .before .args .t1 in
-    (omega arith, rw (c .before .extent-of .ensures, l .inv .1, from-before noAxis (x .items) (x .count) (l .i) (omega arith) (omega arith)))
-
-returns : tie.Need-returns Inv-loop μ-loop
-unfolding extentsAgree listed
+returns : tie.Need-returns
+unfolding extentsAgree together
 returns c =
-    let l = c .before .loop in
-    let z : l .i ≡ 0 = omega arith in
-    rw (l .inv .1, z)
+    let x = c .before .before .before .args .x in
+    let s = shapeOf x in
+    let p : Axis → Bool = λ a. eqb (a .extent) (extentOf (a .letter) (together s)) in
+    rw (c .before .before .extents-as .ensures, c .before .extents-as2 .ensures, c .extents-as3 .ensures)
+    (sym (every-and p (s D) (s A ++ s B) ∙ ap (λ (b : Bool). every p (s D) && b) (every-and p (s A) (s B))))
 
 pub extents-agree-spec : {M : Type 1} → statement M
 extents-agree-spec =
-    tie.close
-    (tie.spec
-    Inv-loop
-    μ-loop
-    loop-holds
-    sub-i
-    mul-a
-    element-copy-out-a
-    extent-of-requires
-    loop-less
-    loop-again
-    returns)
+    tie.close (tie.spec extents-as-requires extents-as-requires-2 extents-as-requires-3 returns)

@@ -13,10 +13,14 @@ use lib.ListN.{getD}
 use Rattle.words.specs.Sums.{product}
 use Rattle.words.proofs.Tabulate.{from, from-end, from-before}
 use Rattle.limits.specs.Limits.{productLimit}
-use Rattle.layout.specs.Listed.{listed}
+use Rattle.validity.specs.TensorQuestions.{extentsValid}
 use Rattle.labels.specs.Labels.{extentOf}
 use Rattle.labels.specs.LetterSets.{spelled}
 use Rattle.labels.proofs.Facts.{extents-bound}
+use Rattle.contraction.specs.declared.operands.Operands.{Operands}
+use Rattle.contraction.specs.Operands.{together}
+use Rattle.contraction.specs.TensorAxes.{shapeOf, Gathered}
+use Rattle.contraction.proofs.Together.{every-together}
 use Rattle.points.specs.LabelQuestions.{points, pointsFit}
 use Rattle.points.proofs.label_questions.points_fit.Statement.{statement}
 use Rattle.points.proofs.label_questions.points_fit.Tie as tie
@@ -50,8 +54,13 @@ cut-test k p = go (leb p k) (leb→le p k) (nleb→lt p k)
         let l : k + 1 ≤ p = omega (arith, g tt) in
         rw (min-eq-left l) (lt-leb (k + 1) k (omega arith))
 
+-- every extent is 1 or more
+valid : (x : Operands) → Gathered x → T (extentsValid (together (shapeOf x)))
+unfolding extentsValid
+valid x h = every-together _ (shapeOf x) (λ o. h .each o .checked .extents)
+
 abbrev Inv-loop : tie.InvT-loop
-Inv-loop x all i₀ product₀ i product′ = (i ≤ i₀) × (product′ ≡ min (productLimit + 1) (product (λ c. extentOf c (listed (x .axes))) (from 0 (all .letters) i₀ i)))
+Inv-loop x all i₀ product₀ i product′ = (i ≤ i₀) × (product′ ≡ min (productLimit + 1) (product (λ c. extentOf c (together (shapeOf x))) (from 0 (all .letters) i₀ i)))
 
 abbrev μ-loop : tie.MeasureT-loop
 μ-loop x all i₀ product₀ i product′ = i
@@ -64,11 +73,11 @@ loop-holds c =
 sub-i : tie.Need-sub-i Inv-loop μ-loop
 sub-i c = omega arith
 
-element-copy-out-extent-of : tie.Need-element-copy-out-extent-of Inv-loop μ-loop
-element-copy-out-extent-of c = omega (arith, c .before .before .before .pre .spells .few)
+element-copy-out-extent : tie.Need-element-copy-out-extent Inv-loop μ-loop
+element-copy-out-extent c = omega (arith, c .before .before .before .pre .all .few)
 
-extent-of-requires : tie.Need-extent-of-requires Inv-loop μ-loop
-extent-of-requires c κs = c .before .before .before .before .pre .checked .few
+extent-requires : tie.Need-extent-requires Inv-loop μ-loop
+extent-requires c κs = c .before .before .before .before .pre
 
 capped-requires : tie.Need-capped-requires Inv-loop μ-loop
 capped-requires c κs =
@@ -83,9 +92,9 @@ loop-again c =
     let l = c .before .before .before .before .loop in
     let s = c .before .before .before .before .before .before in
     let all = c .before .before .before .before .before .before .args .x .letters in
-    let e = extents-bound (listed (s .args .x .axes)) (s .pre .checked .extents) (getD (all .letters) (l .i - 1) 0) in (
+    let e = extents-bound (together (shapeOf (s .args .x))) (valid (s .args .x) (s .pre)) (getD (all .letters) (l .i - 1) 0) in (
       omega arith,
-      rw (c .capped .ensures, c .before .extent-of .ensures, l .inv .1, from-before 0 (all .letters) (all .count) (l .i) (omega arith) (omega arith))
+      rw (c .capped .ensures, c .before .extent .ensures, l .inv .1, from-before 0 (all .letters) (all .count) (l .i) (omega arith) (omega arith))
           (cut-product (productLimit + 1) _ _ (e .0)),
     )
 
@@ -94,9 +103,9 @@ unfolding pointsFit points spelled
 returns c =
     let l = c .before .loop in
     let z : l .i ≡ 0 = omega arith in
-    let x = c .before .before .before .args .x .axes in
-    let spells = c .before .before .before .pre .spells .spells in
-    rw (l .inv .1, z, spells) (cut-test productLimit (points (listed x)))
+    let x = c .before .before .before .args .x in
+    let spells = c .before .before .before .pre .all .spells in
+    rw (l .inv .1, z, spells) (cut-test productLimit (points (together (shapeOf x))))
 
 pub points-fit-spec : {M : Type 1} → statement M
 points-fit-spec =
@@ -106,8 +115,8 @@ points-fit-spec =
     μ-loop
     loop-holds
     sub-i
-    element-copy-out-extent-of
-    extent-of-requires
+    element-copy-out-extent
+    extent-requires
     capped-requires
     loop-less
     loop-again

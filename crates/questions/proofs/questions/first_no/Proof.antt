@@ -1,11 +1,14 @@
 -- `first_no` meets its contract: each tensor answers for itself, and the answers joined are those of the three; where none of questions 1 to 5 fails,
 -- the lists hold the axes, and the later questions are asked.
 -- Assumes nothing.
-use mathlib.Core.Path.{_≡_, sym, _∙_}
+use mathlib.Core.Path.{_≡_, sym, ap, _∙_}
 use mathlib.Core.List.{List, [], _∷_, _++_}
 use borrow.Author.Needs.{needs}
 use Rattle.layout.specs.declared.layout.Layout.{Layout}
-use Rattle.contraction.specs.Operands.{Operand, A, B, D, tensors, lengths}
+use Rattle.layout.specs.Listed.{listed}
+use Rattle.labels.specs.declared.letter_sets.Labelled.{Labelled}
+use Rattle.contraction.specs.Operands.{Operand, A, B, D, three, tensors, lengths}
+use Rattle.contraction.specs.TensorAxes.{ListedFrom, Ready}
 use Rattle.questions.specs.Questions.{Lent, refusal, tensorQuestions, lentTensors, labelQuestions, entryQuestions, layoutQuestions}
 use Rattle.questions.specs.Answers.{AnswerOf}
 use Rattle.questions.proofs.Refusal.{refusal-next, refusal-first}
@@ -31,6 +34,9 @@ and-requires-2 c κs = search needs
 none-requires : tie.Need-none-requires
 none-requires c κs = search needs
 
+none-requires-2 : tie.Need-none-requires-2
+none-requires-2 c κs = search needs
+
 -- one tensor of the three
 abbrev own : (s : tie.Start) → Operand → List Lent
 own s o = record { layout = tensors (s .args .c) o; words = lengths (s .args .n) o } ∷ []
@@ -47,18 +53,21 @@ joined c =
 returns : tie.Need-returns
 unfolding layoutQuestions
 returns c =
-    let k = c .before .before in
+    let k = c .before .before .before in
     let s = k .before .before .before .before .before in
     let t = tensors (s .args .c) in
     let n = lengths (s .args .n) in
     let e = joined k .number in
     record {
-      number = e ∙ sym (refusal-first (tensorQuestions (lentTensors t n)) (labelQuestions t n ++ entryQuestions t n) (λ z. c .before .if1 .taken (e ∙ z)));
-      lists = λ z. absurd (c .before .if1 .taken z);
+      number = e ∙ sym (refusal-first (tensorQuestions (lentTensors t n)) (labelQuestions t n ++ entryQuestions t n) (λ z. c .before .before .if1 .taken (e ∙ z)));
+      lists = λ z. absurd (c .before .before .if1 .taken z);
     }
 
-of-requires-4 : tie.Need-of-requires-4
-of-requires-4 c κs =
+-- the list of each tensor
+each : (c : tie.Else1)
+    → let d = c .before .before .before in
+    ListedFrom (d .before .before .before .args .c) (three (d .before .before .of .result .lists) (d .before .of2 .result .lists) (d .of3 .result .lists))
+each c =
     let k = c .before in
     let d = k .before .before in
     let s = k .before .before .before .before .before in
@@ -74,11 +83,18 @@ of-requires-4 c κs =
           ];
     }
 
+of-requires-4 : tie.Need-of-requires-4
+of-requires-4 c κs = record { each = λ o. each c .each o .lettered }
+
+-- the lists hold the axes of the tensors
+ready : (c : tie.After-of4) → Ready (c .before .before .before .before .before .before .before .args .c) (c .of4 .result)
+ready c = record { each = λ o. ap (λ (x : Labelled). listed (x .axes)) (c .of4 .ensures .same o) ∙ each (c .before) .each o .lists; gathered = c .of4 .ensures .gathered }
+
 later-refusal-requires : tie.Need-later-refusal-requires
 later-refusal-requires c κs =
     let k = c .before .before in
     let z = sym (joined k .number) ∙ c .before .if1 .left in
-    (c .of4 .ensures, joined k .inside z)
+    (ready c, joined k .inside z)
 
 returns-2 : tie.Need-returns-2
 unfolding layoutQuestions tensorQuestions
@@ -90,7 +106,7 @@ returns-2 c =
     let z = sym (joined k .number) ∙ c .before .before .if1 .left in
     record {
       number = c .later-refusal .ensures ∙ sym (refusal-next (tensorQuestions (lentTensors t n)) (labelQuestions t n ++ entryQuestions t n) tt z);
-      lists = λ e. c .before .of4 .ensures;
+      lists = λ e. ready (c .before);
     }
 
 pub first-no-spec : {M : Type 1} → statement M
@@ -103,6 +119,7 @@ first-no-spec =
     and-requires
     and-requires-2
     none-requires
+    none-requires-2
     returns
     of-requires-4
     later-refusal-requires

@@ -1,10 +1,11 @@
 -- `Answer::and` meets its contract: the first question to fail of all is the sooner one, and a question passes of all where it passes of some and of the others.
 -- Assumes nothing.
 use mathlib.Core.Path.{_≡_, sym, _∙_}
+use Rattle.words.proofs.Sums.{every-and}
 use Rattle.layout.specs.Layout.{axes}
 use Rattle.entries.specs.EntryQuestions.{inside}
 use Rattle.questions.specs.Questions.{Lent}
-use Rattle.questions.proofs.Joined.{every-and, joined-refusal, joined-none}
+use Rattle.questions.proofs.Joined.{joined-refusal, joined-none}
 use borrow.Author.Needs.{needs}
 use Rattle.questions.proofs.tensor_answers.Answer.and.Statement.{statement}
 use Rattle.questions.proofs.tensor_answers.Answer.and.Tie as tie

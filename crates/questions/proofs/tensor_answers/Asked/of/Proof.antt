@@ -52,8 +52,7 @@ returns c =
     failed (s .args .l) (s .args .length) (c .no .result) (c .no .ensures ∙ rw e refl) (λ z. absurd (omega (arith, z, c .no .ensures)))
 
 of-requires : tie.Need-of-requires
-unfolding rankFits
-of-requires c κs = leb-true (c .before .before .args .l .«letter_count») rankLimit (passes (c .before .rank-fits .ensures) (c .if1 .left))
+of-requires c κs = tt
 
 valid-of-requires : tie.Need-valid-of-requires
 unfolding rankFits
@@ -140,7 +139,7 @@ returns-3 c =
     let low = leb-true (s .args .l .«letter_count») rankLimit (passes (o .before .before .rank-fits .ensures) (o .before .if1 .left)) in
     record {
       answer = record { number = own-refusal k; inside = λ z. c .all-inside .ensures ∙ ap (λ (xs : List Axis). inside xs (s .args .l .base) (s .args .length)) e ∙ sym (and-true _) };
-      lists = λ z. record { lists = e; few = omega (arith, ap (λ (y : Axes). y .count) (x .1), o .of .ensures .1, low); rank = low; lettered = x .0 };
+      lists = λ z. record { lists = e; lettered = x .0 };
     }
 
 pub of-spec : {M : Type 1} → statement M
