@@ -1,2 +1,3 @@
 pub mod OrderCases
 pub mod SliceLengths
+pub mod TensorPlaces

@@ -7,6 +7,7 @@ ghost use Rattle.groups.specs.Held.{asLabel, labelsIn};
 ghost use Rattle.groups.specs.Foldable.{Small, Foldable};
 ghost use Rattle.folding.specs.Fold.{eqℤ, joins, join, fold};
 ghost use Rattle.folding.specs.FoldedWith.{addTo};
+use contraction::contraction::Contraction;
 use groups::groups::Dim;
 use groups::groups::Group;
 
@@ -26,8 +27,14 @@ fn continues(p: Dim, l: Dim) -> bool
     requires { ⌜ Small (asLabel p) ⌝ }
     ensures { λ r. ⌜ r ≡ joins (asLabel p) (asLabel l) ⌝ }
 {
-    let e = p.extent;
-    follows(e, p.a, l.a) & (follows(e, p.b, l.b) & follows(e, p.d, l.d))
+    let extent = p.extent;
+    let mut all = true;
+    let mut o: usize = 0;
+    while o < Contraction::TENSORS {
+        all = all & follows(extent, p.strides[o], l.strides[o]);
+        o += 1;
+    }
+    all
 }
 
 // The two as one label.
@@ -35,12 +42,11 @@ fn joined(p: Dim, l: Dim) -> Dim
     requires { ⌜ p .extent * l .extent < 2 ^ 32 ⌝ }
     ensures { λ r. ⌜ asLabel r ≡ join (asLabel p) (asLabel l) ⌝ }
 {
+    let strides = p.strides;
     Dim {
         letter: p.letter,
         extent: p.extent * l.extent,
-        a: p.a,
-        b: p.b,
-        d: p.d,
+        strides,
     }
 }
 

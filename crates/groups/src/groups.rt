@@ -10,6 +10,7 @@ ghost use Rattle.groups.specs.Groups.{label, outputs, size};
 ghost use Rattle.groups.specs.Held.{asLabel, labelsIn};
 ghost use Rattle.groups.specs.Foldable.{Foldable};
 ghost use Rattle.groups.specs.Sets.{Split, Grouped};
+use contraction::contraction::Contraction;
 use contraction::operands::Operands;
 use labels::labels::extent_of;
 use labels::labels::stride_of;
@@ -20,11 +21,9 @@ use limits::limits::Limits;
 
 // A label, or several that were joined, with its extent and its stride in each tensor as an address word.
 pub struct Dim {
-    pub letter: u8,
+    pub letter: u32,
     pub extent: u32,
-    pub a: u64,
-    pub b: u64,
-    pub d: u64,
+    pub strides: [u64; Contraction::TENSORS],
 }
 
 // The labels of a group in order, the fastest first.
@@ -72,12 +71,11 @@ fn dim_of(x: Operands, c: u8) -> Dim
     let b = x.b;
     let d = x.d;
     let all = x.all;
+    let strides = [stride_of(a, c), stride_of(b, c), stride_of(d, c)];
     Dim {
-        letter: c,
+        letter: c as u32,
         extent: extent_of(all, c),
-        a: stride_of(a, c),
-        b: stride_of(b, c),
-        d: stride_of(d, c),
+        strides,
     }
 }
 
@@ -85,14 +83,14 @@ impl Group {
     pub fn none() -> Group
         ensures { λ r. ⌜ (labelsIn r ≡ []) × (r .count ≡ 0) ⌝ }
     {
+        let strides = [0u64; Contraction::TENSORS];
+        let empty = Dim {
+            letter: 0,
+            extent: 0,
+            strides,
+        };
         Group {
-            dims: [Dim {
-                letter: 0,
-                extent: 0,
-                a: 0,
-                b: 0,
-                d: 0,
-            }; Limits::AXES],
+            dims: [empty; Limits::AXES],
             count: 0,
         }
     }
@@ -113,12 +111,11 @@ impl Group {
         requires { ⌜ (self .count ≤ axesLimit) × (start ≤ self .count) × Foldable (labelsIn self) ⌝ }
         ensures { λ r. ⌜ r ≡ size (drop start (labelsIn self)) ⌝ }
     {
-        let dims = self.dims;
         let mut product: u32 = 1;
         let mut i = self.count;
         while i > start {
             i -= 1;
-            let l = dims[i];
+            let l = self.dims[i];
             product = l.extent * product;
         }
         product

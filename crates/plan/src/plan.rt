@@ -39,11 +39,8 @@ pub fn plan_of(c: Contraction, n: Lengths) -> Plan
         column: folded(column),
         depth: folded(depth),
     };
-    let base = Offsets {
-        a: a.base as u64,
-        b: b.base as u64,
-        d: d.base as u64,
-    };
+    let words = [a.base as u64, b.base as u64, d.base as u64];
+    let base = Offsets { words };
     Plan {
         groups,
         output: folded(output),

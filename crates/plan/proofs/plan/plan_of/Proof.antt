@@ -82,14 +82,14 @@ folded-requires-4 c κs =
     let s = o .before in
     asked (s .args .c) (s .args .n) (s .pre) (o .of .result) (o .of .ensures) (r .groups-of .result) (r .groups-of .ensures) depth
 
-cast-t19 : tie.Need-cast-t19
-cast-t19 c = search needs
-
 cast-t20 : tie.Need-cast-t20
 cast-t20 c = search needs
 
 cast-t21 : tie.Need-cast-t21
 cast-t21 c = search needs
+
+cast-t22 : tie.Need-cast-t22
+cast-t22 c = search needs
 
 folded-requires-5 : tie.Need-folded-requires-5
 folded-requires-5 c κs =
@@ -134,8 +134,8 @@ plan-of-spec =
     folded-requires-2
     folded-requires-3
     folded-requires-4
-    cast-t19
     cast-t20
     cast-t21
+    cast-t22
     folded-requires-5
     returns)

@@ -48,13 +48,13 @@ left-fits : (g : Group) → Foldable (labelsIn g) → (i : ℕ) → left (g .dim
 left-fits g f i = omega (arith, f .points, size-drop i (labelsIn g) (f .extents), ap size (drop-labels g i))
 
 abbrev Inv-loop : tie.InvT-loop
-Inv-loop start dims product₀ i₀ product i = (start ≤ i) × (i ≤ i₀) × (product ≡ left dims i₀ i)
+Inv-loop start self product₀ i₀ product i = (start ≤ i) × (i ≤ i₀) × (product ≡ left (self .dims) i₀ i)
 
 abbrev μ-loop : tie.MeasureT-loop
-μ-loop start dims product₀ i₀ product i = i
+μ-loop start self product₀ i₀ product i = i
 
 loop-holds : tie.Need-loop-holds Inv-loop μ-loop
-loop-holds c = (c .before .pre .1, omega arith, sym (left-end (c .before .args .self .dims) (c .before .args .self .count)))
+loop-holds c = (c .pre .1, omega arith, sym (left-end (c .args .t1 .dims) (c .args .t1 .count)))
 
 sub-i : tie.Need-sub-i Inv-loop μ-loop
 sub-i c = omega arith
@@ -62,32 +62,32 @@ sub-i c = omega arith
 mul-l : tie.Need-mul-l Inv-loop μ-loop
 mul-l c = omega arith
 
-array-copy-out-l : tie.Need-array-copy-out-l Inv-loop μ-loop
-array-copy-out-l c = omega arith
+element-copy-out-l : tie.Need-element-copy-out-l Inv-loop μ-loop
+element-copy-out-l c = omega arith
 
 mul-product : tie.Need-mul-product Inv-loop μ-loop
 mul-product c =
-    let s = c .before .before .before .before .before in
+    let s = c .before .before .before .before in
     let l = c .before .before .before .loop in
-    let e : getD (s .args .self .dims) (l .i - 1) noDim .extent * l .product ≡ left (s .args .self .dims) (s .args .self .count) (l .i - 1) =
-    grown (s .args .self .dims) (s .args .self .count) (l .i) (l .product) (omega arith) (omega arith) (l .inv .2) in
-    omega (arith, e, left-fits (s .args .self) (s .pre .2) (l .i - 1))
+    let e : getD (s .args .t1 .dims) (l .i - 1) noDim .extent * l .product ≡ left (s .args .t1 .dims) (s .args .t1 .count) (l .i - 1) =
+    grown (s .args .t1 .dims) (s .args .t1 .count) (l .i) (l .product) (omega arith) (omega arith) (l .inv .2) in
+    omega (arith, e, left-fits (s .args .t1) (s .pre .2) (l .i - 1))
 
 loop-less : tie.Need-loop-less Inv-loop μ-loop
 loop-less c = omega arith
 
 loop-again : tie.Need-loop-again Inv-loop μ-loop
 loop-again c =
-    let s = c .before .before .before .before .before in
+    let s = c .before .before .before .before in
     let l = c .before .before .before .loop in
-    (omega arith, omega arith, grown (s .args .self .dims) (s .args .self .count) (l .i) (l .product) (omega arith) (omega arith) (l .inv .2))
+    (omega arith, omega arith, grown (s .args .t1 .dims) (s .args .t1 .count) (l .i) (l .product) (omega arith) (omega arith) (l .inv .2))
 
 returns : tie.Need-returns Inv-loop μ-loop
 returns c =
-    let s = c .before .before .before .args in
+    let s = c .before .before .args in
     let l = c .before .loop in
     let z : l .i ≡ s .start = omega arith in
-    l .inv .2 ∙ ap (left (s .self .dims) (s .self .count)) z ∙ ap size (drop-labels (s .self) (s .start))
+    l .inv .2 ∙ ap (left (s .t1 .dims) (s .t1 .count)) z ∙ ap size (drop-labels (s .t1) (s .start))
 
 pub size-from-spec : {M : Type 1} → statement M
 size-from-spec =
@@ -98,7 +98,7 @@ size-from-spec =
     loop-holds
     sub-i
     mul-l
-    array-copy-out-l
+    element-copy-out-l
     mul-product
     loop-less
     loop-again
