@@ -15,7 +15,8 @@ use Rattle.tiles.proofs.Sizes.{sumOf-small}
 use Rattle.tiles.proofs.Closed.{length-walk, walk-next}
 use Rattle.tile_blocks.specs.Planned.{readIn, planSetting, Clear}
 use Rattle.tiling.specs.Work.{packed, packedLast}
-use Rattle.tiling.proofs.PackedWork.{packs, packed-none, packed-next, length-last}
+use Rattle.phases.specs.Phases.{packs}
+use Rattle.tiling.proofs.PackedWork.{packed-none, packed-next, length-last}
 use Rattle.tiling.proofs.run_tiles.run_tiles.Statement.{statement}
 use Rattle.tiling.proofs.run_tiles.run_tiles.Tie as tie
 
