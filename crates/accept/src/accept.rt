@@ -34,7 +34,7 @@ impl Accept {
             column: none,
             depth: none,
         };
-        let base = Offsets { a: 0, b: 0, d: 0 };
+        let base = Offsets::none();
         let plan = Plan { groups, base };
         let counts = Counts {
             batch: 0,

@@ -1,3 +1,4 @@
 pub mod OrderCases
 pub mod SliceLengths
+pub mod TensorPlaces
 pub mod Together

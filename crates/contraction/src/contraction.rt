@@ -19,6 +19,15 @@ pub struct Lengths {
 }
 
 impl Contraction {
+    // How many tensors there are, and their places in arrays by tensor.
+    pub const TENSORS: usize = 3;
+
+    pub const A: usize = 0;
+
+    pub const B: usize = 1;
+
+    pub const D: usize = 2;
+
     // The contraction of three layouts as they were handed in: nothing is asked here, a call asks its questions of it.
     pub fn new(a: Layout, b: Layout, d: Layout, alpha: u32, beta: u32) -> Contraction
         ensures { λ r. ⌜ r ≡ contractionOf a b d alpha beta ⌝ }

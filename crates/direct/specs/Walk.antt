@@ -39,6 +39,10 @@ places base g n o = reached o (wordsIn base o) g n
 unfoldable pub dot : ℕ → (ℕ → ℕ) → List ℕ → (ℕ → ℕ) → List ℕ → ℕ
 dot n i a j b = sumTo n (λ k. getD a (i k) 0 * getD b (j k) 0)
 
+-- the sum along a run of n places in each tensor
+abbrev pub runSum : ℕ → (ℕ → Operand → ℕ) → List ℕ → List ℕ → ℕ
+runSum n at a b = dot n (λ v. at v A) a (λ v. at v B) b
+
 -- the sum over the counts of the depth group g, from an address word of each tensor
 unfoldable pub sumFrom : List Label → List ℕ → List ℕ → (Operand → ℕ) → ℕ
 sumFrom g a b at = dot (size g) (reached A (at A) g) a (reached B (at B) g) b
@@ -48,6 +52,11 @@ unfoldable pub filled : ℕ → ℕ → List Label → List ℕ → List ℕ →
 filled alpha beta g a b at = put (combined alpha beta (sumFrom g a b at)) (at D)
 
 -- ---- what the loops may assume
+
+-- along a run of n places in each tensor, all that is read is inside
+pub record RunReadable (n : ℕ) (at : ℕ → Operand → ℕ) (a b : List ℕ) : Type 0 where
+  pub inA : Within n (λ v. at v A) (length a)
+  pub inB : Within n (λ v. at v B) (length b)
 
 -- from an address word of each tensor, all that the sum over the depth group g reads is inside
 pub record Readable (g : List Label) (a b : List ℕ) (at : Operand → ℕ) : Type 0 where

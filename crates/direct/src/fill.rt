@@ -6,6 +6,7 @@ ghost use Rattle.meaning.specs.Meaning.{combined};
 ghost use Rattle.direct.specs.Walk.{steps, places, over, filled, Walks, Clear};
 use super::sum::depth_sum;
 use super::walk::Walk;
+use contraction::contraction::Contraction;
 use offsets::offsets::Offsets;
 
 // alpha × a sum + beta × the old word.
@@ -35,7 +36,7 @@ fn fill_run(
     let mut v: u32 = 0;
     while v < len {
         let sum = depth_sum(a, b, at, depth);
-        let place = at.d as usize;
+        let place = at.words[Contraction::D] as usize;
         let old = d[place];
         d[place] = combine(alpha, sum, beta, old);
         at = at.plus(step);

@@ -1,21 +1,20 @@
 ghost use mathlib.Core.Path.{_≡_};
-ghost use lib.ListN.{length};
 ghost use Rattle.words.specs.Words.{word};
-ghost use Rattle.words.specs.Loops.{Within};
 ghost use Rattle.offsets.specs.Offsets.{wordsIn};
-ghost use Rattle.direct.specs.Walk.{stepped, dot, sumFrom, over, Readable, Walks};
+ghost use Rattle.direct.specs.Walk.{steps, runSum, sumFrom, over, RunReadable, Readable, Walks};
 use super::walk::Walk;
+use contraction::contraction::Contraction;
 use offsets::offsets::Offsets;
 
 // The sum along a run: A's word × B's word at `len` places, each a step from the one before.
 fn run_sum(a: &[u32], b: &[u32], from: Offsets, step: Offsets, len: u32) -> u32
-    requires { ⌜ Within len (stepped (from .a) (step .a)) (length (now a)) × Within len (stepped (from .b) (step .b)) (length (now b)) ⌝ }
-    ensures { λ r. ⌜ r ≡ word 32 (dot len (stepped (from .a) (step .a)) (now (a .entry)) (stepped (from .b) (step .b)) (now (b .entry))) ⌝ }
+    requires { ⌜ RunReadable len (steps from step) (now a) (now b) ⌝ }
+    ensures { λ r. ⌜ r ≡ word 32 (runSum len (steps from step) (now (a .entry)) (now (b .entry))) ⌝ }
 {
-    let step_a = step.a;
-    let step_b = step.b;
-    let mut i = from.a;
-    let mut j = from.b;
+    let step_a = step.words[Contraction::A];
+    let step_b = step.words[Contraction::B];
+    let mut i = from.words[Contraction::A];
+    let mut j = from.words[Contraction::B];
     let mut sum: u32 = 0;
     let mut v: u32 = 0;
     while v < len {

@@ -10,6 +10,7 @@ ghost use Rattle.labels.specs.LetterSets.{has};
 ghost use Rattle.groups.specs.Held.{asLabel, labelsIn};
 ghost use Rattle.groups.specs.Foldable.{Small, Foldable};
 ghost use Rattle.folding.specs.Fold.{eqℤ, joins, join, fold};
+use contraction::contraction::Contraction;
 use groups::groups::Dim;
 use groups::groups::Group;
 use labels::letter_sets::has_letter;
@@ -30,8 +31,14 @@ fn continues(p: Dim, l: Dim) -> bool
     requires { ⌜ Small (asLabel p) ⌝ }
     ensures { λ r. ⌜ r ≡ joins (asLabel p) (asLabel l) ⌝ }
 {
-    let e = p.extent;
-    follows(e, p.a, l.a) & (follows(e, p.b, l.b) & follows(e, p.d, l.d))
+    let extent = p.extent;
+    let mut all = true;
+    let mut o: usize = 0;
+    while o < Contraction::TENSORS {
+        all = all & follows(extent, p.strides[o], l.strides[o]);
+        o += 1;
+    }
+    all
 }
 
 // The two as one label.
@@ -39,12 +46,11 @@ fn joined(p: Dim, l: Dim) -> Dim
     requires { ⌜ p .extent * l .extent < 2 ^ 32 ⌝ }
     ensures { λ r. ⌜ asLabel r ≡ join (asLabel p) (asLabel l) ⌝ }
 {
+    let strides = p.strides;
     Dim {
         letter: p.letter,
         extent: p.extent * l.extent,
-        a: p.a,
-        b: p.b,
-        d: p.d,
+        strides,
     }
 }
 
@@ -91,7 +97,7 @@ pub fn folded(g: Group, set: u64) -> Group
     let mut i: usize = 0;
     while i < count {
         let l = g.dims[i];
-        if has_letter(set, l.letter as u32) & (l.extent != 1) {
+        if has_letter(set, l.letter) & (l.extent != 1) {
             let last = last_place(n);
             let p = out.dims[last];
             let joins = joins_last(n, p, l);

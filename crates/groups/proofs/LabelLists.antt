@@ -12,7 +12,7 @@ use Rattle.layout.specs.Listed.{listed}
 use Rattle.labels.specs.Labels.{strideOf, extentOf}
 use Rattle.labels.proofs.Facts.{signed-stride}
 use Rattle.contraction.specs.declared.operands.Operands.{Operands}
-use Rattle.contraction.specs.Operands.{Operand, A, B, D, three, together}
+use Rattle.contraction.specs.Operands.{Operand, A, B, D, byTensor, together}
 use Rattle.contraction.specs.TensorAxes.{axesIn, shapeOf, Gathered}
 use Rattle.groups.specs.declared.groups.Dim.{Dim}
 use Rattle.groups.specs.declared.groups.Group.{Group}
@@ -33,26 +33,20 @@ pub labels-last : (dims : List Dim) (n : ℕ) → labelsIn (holding dims (n + 1)
 unfolding labelsIn
 labels-last dims n = ap (map asLabel) (firstOf-suc n noDim dims) ∙ map-append asLabel (firstOf n noDim dims) (getD dims n noDim ∷ [])
 
+-- the address words of a letter's strides, in an array by tensor
+abbrev strideWords : Operands → ℕ → List ℕ
+strideWords x c = wordOf 64 (strideOf c (listed (x .a .axes))) ∷ wordOf 64 (strideOf c (listed (x .b .axes))) ∷ wordOf 64 (strideOf c (listed (x .d .axes))) ∷ []
+
 -- a letter's label: its extent in all axes together, and its strides by their address words
 pub as-label : (x : Operands) → Gathered x → (c : ℕ)
-    → asLabel
-    (record {
-      letter = c;
-      extent = extentOf c (together (shapeOf x));
-      a = wordOf 64 (strideOf c (listed (x .a .axes)));
-      b = wordOf 64 (strideOf c (listed (x .b .axes)));
-      d = wordOf 64 (strideOf c (listed (x .d .axes)));
-    })
-    ≡ label (shapeOf x) c
+    → asLabel (record { letter = c; extent = extentOf c (together (shapeOf x)); strides = strideWords x c }) ≡ label (shapeOf x) c
 as-label x h c =
     (ap (λ (f : Operand → ℤ). record { letter = c; extent = extentOf c (together (shapeOf x)); stride = f }) (fun-ext same))
   where
     word : (o : Operand) → signed 64 (wordOf 64 (strideOf c (shapeOf x o))) ≡ strideOf c (shapeOf x o)
     word o = signed-stride (axesIn x o) (h .each o .checked .few) (h .each o .checked .strides) c
 
-    same : (o : Operand)
-        → three (signed 64 (wordOf 64 (strideOf c (listed (x .a .axes))))) (signed 64 (wordOf 64 (strideOf c (listed (x .b .axes))))) (signed 64 (wordOf 64 (strideOf c (listed (x .d .axes))))) o
-        ≡ strideOf c (shapeOf x o)
+    same : (o : Operand) → signed 64 (byTensor (strideWords x c) o) ≡ strideOf c (shapeOf x o)
     same A = word A
     same B = word B
     same D = word D

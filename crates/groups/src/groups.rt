@@ -10,17 +10,16 @@ ghost use Rattle.groups.specs.Groups.{label, size};
 ghost use Rattle.groups.specs.Held.{asLabel, labelsIn};
 ghost use Rattle.groups.specs.Foldable.{Foldable};
 ghost use Rattle.groups.specs.Sets.{Split, Grouped};
+use contraction::contraction::Contraction;
 use contraction::operands::Operands;
 use labels::labels::stride_of;
 use limits::limits::Limits;
 
 // A label, or several that were joined, with its extent and its stride in each tensor as an address word.
 pub struct Dim {
-    pub letter: u8,
+    pub letter: u32,
     pub extent: u32,
-    pub a: u64,
-    pub b: u64,
-    pub d: u64,
+    pub strides: [u64; Contraction::TENSORS],
 }
 
 // The labels of a group in order, the fastest first.
@@ -64,12 +63,15 @@ fn dim_of(x: Operands, c: u8) -> Dim
     requires { ⌜ Gathered x ⌝ }
     ensures { λ r. ⌜ asLabel r ≡ label (shapeOf x) c ⌝ }
 {
+    let strides = [
+        stride_of(x.a.axes, c),
+        stride_of(x.b.axes, c),
+        stride_of(x.d.axes, c),
+    ];
     Dim {
-        letter: c,
+        letter: c as u32,
         extent: x.extent(c),
-        a: stride_of(x.a.axes, c),
-        b: stride_of(x.b.axes, c),
-        d: stride_of(x.d.axes, c),
+        strides,
     }
 }
 
@@ -77,14 +79,14 @@ impl Group {
     pub fn none() -> Group
         ensures { λ r. ⌜ (labelsIn r ≡ []) × (r .count ≡ 0) × (length (r .dims) ≡ axesLimit) ⌝ }
     {
+        let strides = [0u64; Contraction::TENSORS];
+        let empty = Dim {
+            letter: 0,
+            extent: 0,
+            strides,
+        };
         Group {
-            dims: [Dim {
-                letter: 0,
-                extent: 0,
-                a: 0,
-                b: 0,
-                d: 0,
-            }; Limits::AXES],
+            dims: [empty; Limits::AXES],
             count: 0,
         }
     }

@@ -1,4 +1,5 @@
 pub mod Digits
 pub mod OffsetCases
 pub mod OffsetWords
+pub mod OwnedWords
 pub mod Runs

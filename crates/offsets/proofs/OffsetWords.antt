@@ -1,64 +1,81 @@
--- Offsets as address words: from their three words, and of a count of a group, label after label.
+-- Offsets as address words: from the words at each tensor's place, and of a count of a group, label after label.
 -- Assumes nothing.
 use mathlib.Core.Path.{_≡_, refl, ap, sym, _∙_}
-use mathlib.Core.List.{List, [], _∷_}
+use mathlib.Core.List.{List, [], _∷_, map}
 use Prim.Native.Nat.{ℕ, _+_, _*_, _/_, _%_, _<_}
 use native.Mathlib.Nat.{zero-add, add-zero, add-assoc}
+use lib.ListN.{length, getD, set}
 use Rattle.words.specs.Words.{word, wordOf}
+use Rattle.words.specs.Fronts.{front}
+use Rattle.words.proofs.Fronts.{getD-front, front-set}
 use Rattle.words.proofs.Modular.{word-word, word-add-left, word-add-right}
-use Rattle.contraction.specs.Operands.{Operand, A, B, D}
+use Rattle.words.proofs.Tabulate.{from, from-end, from-next}
+use Rattle.contraction.specs.Operands.{Operand, tensorCount, operandNumber}
+use Rattle.contraction.proofs.TensorPlaces.{number-below}
+use Rattle.groups.specs.declared.groups.Dim.{Dim}
 use Rattle.groups.specs.Groups.{Label, size}
+use Rattle.groups.specs.Held.{asLabel, noDim}
 use Rattle.offsets.specs.declared.offsets.Offsets.{Offsets}
 use Rattle.offsets.specs.Counts.{offsetIn}
-use Rattle.offsets.specs.Offsets.{wordsIn, Words}
+use Rattle.offsets.specs.Offsets.{Words}
 use Rattle.offsets.proofs.Digits.{pos-left, div-below}
 
-pub by-words : {r : Offsets} {f : Operand → ℕ} → r .a ≡ word 64 (f A) → r .b ≡ word 64 (f B) → r .d ≡ word 64 (f D) → Words r f
-by-words {r} {f} a b d = record { each = go }
-  where
-    go : (o : Operand) → wordsIn r o ≡ word 64 (f o)
-    go A = a
-    go B = b
-    go D = d
+-- one word more, and words that were stored at all places
+pub next-place : (w : ℕ → ℕ) (before : List ℕ) {words : List ℕ} {o v : ℕ} → o < length before → words ≡ front o w before → v ≡ w o → set words o v ≡ front (o + 1) w before
+next-place w before {words} {o} {v} h e f = ap (λ (l : List ℕ). set l o v) e ∙ front-set w before o v h f
 
--- count n of all labels: `at` holds the offsets of the labels done, and a count `rest` of the labels left is still to be added
-pub record Partway (at : Offsets) (left : List Label) (rest : ℕ) (all : List Label) (n : ℕ) : Type 0 where
+pub by-places : (w : ℕ → ℕ) (before : List ℕ) (r : Offsets) {f : Operand → ℕ} → r .words ≡ front tensorCount w before → ((o : Operand) → w (operandNumber o) ≡ word 64 (f o)) → Words r f
+by-places w before r e h =
+    record { each = λ o. ap (λ (l : List ℕ). getD l (operandNumber o) 0) e ∙ getD-front tensorCount w before (operandNumber o) (number-below o) ∙ h o }
+
+-- in tensor o, count n of all labels: `at` is the offset of the labels done, and a count `rest` of the labels left is still to be added
+pub record Partway (o : Operand) (at : ℕ) (left : List Label) (rest : ℕ) (all : List Label) (n : ℕ) : Type 0 where
   pub below : rest < size left
-  pub fits : (o : Operand) → word 64 (wordsIn at o) ≡ wordsIn at o
-  pub total : (o : Operand) → word 64 (wordsIn at o + offsetIn (wordOf 64) o left rest) ≡ word 64 (offsetIn (wordOf 64) o all n)
+  pub fits : word 64 at ≡ at
+  pub total : word 64 (at + offsetIn (wordOf 64) o left rest) ≡ word 64 (offsetIn (wordOf 64) o all n)
 
--- no offset yet
-abbrev none : Offsets
-none = record { a = 0; b = 0; d = 0 }
+-- the labels from place i on
+abbrev pub labelsFrom : List Dim → ℕ → ℕ → List Label
+labelsFrom dims count i = map asLabel (from noDim dims count i)
 
-none-at : (o : Operand) → wordsIn none o ≡ 0
-none-at A = refl
-none-at B = refl
-none-at D = refl
+module _ (o : Operand) where
+  pub offsets-start : (all : List Label) (n : ℕ) → n < size all → Partway o 0 all n all n
+  offsets-start all n h = record { below = h; fits = refl; total = rw zero-add }
 
-pub offsets-start : (all : List Label) (n : ℕ) → n < size all → Partway none all n all n
-offsets-start all n h = record { below = h; fits = λ o. rw (none-at o); total = λ o. rw (none-at o, zero-add) }
+  module _ (at : ℕ) (l : Label) (left : List Label) (rest : ℕ) (all : List Label) (n : ℕ) (p : Partway o at (l ∷ left) rest all n) where
+    extent-pos : 0 < l .extent
+    extent-pos = pos-left (l .extent) (size left) rest (p .below)
 
-module _ (at : Offsets) (l : Label) (left : List Label) (rest : ℕ) (all : List Label) (n : ℕ) (p : Partway at (l ∷ left) rest all n) where
-  pub extent-pos : 0 < l .extent
-  extent-pos = pos-left (l .extent) (size left) rest (p .below)
+    offsets-turn : (step next : ℕ) → step ≡ word 64 (rest % l .extent * wordOf 64 (l .stride o)) → next ≡ word 64 (at + step) → Partway o next left (rest / l .extent) all n
+    offsets-turn step next s t =
+        let d = rest % l .extent * wordOf 64 (l .stride o) in
+        let y = offsetIn (wordOf 64) o left (rest / l .extent) in
+        record {
+          below = div-below rest (l .extent) (size left) (p .below);
+          fits = rw t (word-word 64 (at + step));
+          total =
+              ap (λ (z : ℕ). word 64 (z + y)) (t ∙ ap (λ (z : ℕ). word 64 (at + z)) s ∙ word-add-right 64 at d) ∙ word-add-left 64 (at + d) y
+              ∙ ap (word 64) (add-assoc at d y) ∙ p .total;
+        }
 
-  pub offsets-turn : (step next : Offsets) → Words step (λ o. rest % l .extent * wordOf 64 (l .stride o)) → Words next (λ o. wordsIn at o + wordsIn step o)
-      → Partway next left (rest / l .extent) all n
-  offsets-turn step next s t =
-      record {
-        below = div-below rest (l .extent) (size left) (p .below);
-        fits = λ o. rw (t .each o) (word-word 64 (wordsIn at o + wordsIn step o));
-        total = total;
-      }
-    where
-      total : (o : Operand) → word 64 (wordsIn next o + offsetIn (wordOf 64) o left (rest / l .extent)) ≡ word 64 (offsetIn (wordOf 64) o all n)
-      total o =
-          let x = wordsIn at o in
-          let d = rest % l .extent * wordOf 64 (l .stride o) in
-          let y = offsetIn (wordOf 64) o left (rest / l .extent) in
-          ap (λ (z : ℕ). word 64 (z + y)) (t .each o ∙ ap (λ (z : ℕ). word 64 (x + z)) (s .each o) ∙ word-add-right 64 x d) ∙ word-add-left 64 (x + d) y
-          ∙ ap (word 64) (add-assoc x d y) ∙ p .total o
+  -- a turn of the loop, at the label of place i
+  module _ (dims : List Dim) (count i : ℕ) (h : i < count) (at rest n : ℕ) (p : Partway o at (labelsFrom dims count i) rest (labelsFrom dims count 0) n) where
+    abbrev l : Label
+    l = asLabel (getD dims i noDim)
 
-pub offsets-end : (at : Offsets) (rest : ℕ) (all : List Label) (n : ℕ) → Partway at [] rest all n → Words at (λ o. offsetIn (wordOf 64) o all n)
-offsets-end at rest all n p = record { each = λ o. sym (p .fits o) ∙ ap (word 64) (sym (add-zero (wordsIn at o))) ∙ p .total o }
+    next : Partway o at (l ∷ labelsFrom dims count (i + 1)) rest (labelsFrom dims count 0) n
+    next = rw (from-next noDim dims count i h) at p
+
+    pub extent-at : 0 < l .extent
+    extent-at = extent-pos at l (labelsFrom dims count (i + 1)) rest (labelsFrom dims count 0) n next
+
+    pub turn : (step to : ℕ) → step ≡ word 64 (rest % l .extent * wordOf 64 (l .stride o)) → to ≡ word 64 (at + step)
+        → Partway o to (labelsFrom dims count (i + 1)) (rest / l .extent) (labelsFrom dims count 0) n
+    turn = offsets-turn at l (labelsFrom dims count (i + 1)) rest (labelsFrom dims count 0) n next
+
+  -- no label is left
+  pub offsets-end : (dims : List Dim) (count i at rest n : ℕ) → i ≡ count → Partway o at (labelsFrom dims count i) rest (labelsFrom dims count 0) n
+      → at ≡ word 64 (offsetIn (wordOf 64) o (labelsFrom dims count 0) n)
+  offsets-end dims count i at rest n z p =
+      let q : Partway o at [] rest (labelsFrom dims count 0) n = rw (z, from-end noDim dims count) at p in
+      sym (q .fits) ∙ ap (word 64) (sym (add-zero at)) ∙ q .total

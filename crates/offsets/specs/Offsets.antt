@@ -3,11 +3,12 @@
 use Prim.Native.Nat.{ℕ}
 use mathlib.Core.Path.{_≡_}
 use Rattle.words.specs.Words.{word}
-use Rattle.contraction.specs.Operands.{Operand, three}
+use Rattle.contraction.specs.Operands.{Operand, byTensor}
 use Rattle.offsets.specs.declared.offsets.Offsets.{Offsets}
 
+-- the word at a tensor's place
 abbrev pub wordsIn : Offsets → Operand → ℕ
-wordsIn x = three (x .a) (x .b) (x .d)
+wordsIn x = byTensor (x .words)
 
 -- the words are those of f, modulo 2^64
 pub record Words (r : Offsets) (f : Operand → ℕ) : Type 0 where

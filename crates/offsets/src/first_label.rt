@@ -17,19 +17,14 @@ impl FirstLabel {
         ensures { λ r. ⌜ FirstLabelOf (labelsIn g) r ⌝ }
     {
         if g.count == 0 {
-            let still = Offsets { a: 0, b: 0, d: 0 };
+            let still = Offsets::none();
             return FirstLabel {
                 step: still,
                 len: 1,
             };
         }
-        let dims = g.dims;
-        let l = dims[0];
-        let step = Offsets {
-            a: l.a,
-            b: l.b,
-            d: l.d,
-        };
+        let l = g.dims[0];
+        let step = Offsets::along(l, 1);
         FirstLabel {
             step,
             len: l.extent,

@@ -29,11 +29,8 @@ fn base_of(c: Contraction) -> Offsets
     let a = c.a;
     let b = c.b;
     let d = c.d;
-    Offsets {
-        a: a.base as u64,
-        b: b.base as u64,
-        d: d.base as u64,
-    }
+    let words = [a.base as u64, b.base as u64, d.base as u64];
+    Offsets { words }
 }
 
 // The plan of a contraction that questions 1 to 9 accept, from the lists of its axes.

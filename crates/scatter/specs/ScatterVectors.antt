@@ -1,28 +1,27 @@
--- Scatter vectors: the offsets of a group's counts, in each tensor. Inside contracts only.
+-- Scatter vectors: the offsets of a group's counts in a tensor. Inside contracts only.
 -- Assumes nothing.
 use Prim.Native.Nat.{ℕ, _+_, _<_}
 use mathlib.Core.Path.{_≡_}
 use mathlib.Core.List.{List}
 use lib.ListN.{getD}
 use Rattle.words.specs.Words.{word, wordOf}
-use Rattle.words.specs.Loops.{each}
 use Rattle.words.specs.Fronts.{front}
-use Rattle.contraction.specs.Operands.{Operand, three}
+use Rattle.contraction.specs.Operands.{Operand}
 use Rattle.groups.specs.Groups.{Label}
 use Rattle.offsets.specs.Counts.{offsetIn}
 use Rattle.block.specs.declared.block.Block.{Block}
 use Rattle.block.specs.Places.{asStep, Stepped}
-use Rattle.scatter.specs.declared.blocks.Blocks.{Blocks}
 
--- the address words of the counts of g from `first` on, in each tensor, moved by `from`, stand at the front of each list
-pub record ScatterVectors (from : Operand → ℕ) (g : List Label) (first count : ℕ) (before after : Operand → List ℕ) : Type 0 where
-  pub each : (o : Operand) → after o ≡ front count (λ k. word 64 (from o + offsetIn (wordOf 64) o g (first + k))) (before o)
+-- the address word of a count of g in tensor o, moved by `from`
+abbrev pub wordAt : Operand → ℕ → List Label → ℕ → ℕ
+wordAt o from g n = word 64 (from + offsetIn (wordOf 64) o g n)
 
-abbrev pub blocksIn : Blocks → Operand → Block
-blocksIn b = three (b .a) (b .b) (b .d)
+-- a list with the address words of `count` counts of g from `first` on at its front
+abbrev pub scatterVector : Operand → ℕ → List Label → ℕ → ℕ → List ℕ → List ℕ
+scatterVector o from g first count = front count (λ k. wordAt o from g (first + k))
 
--- for each tensor the block of the counts of g from `first` on
-pub record Blocked (g : List Label) (first count : ℕ) (b : Blocks) : Type 0 where
-  pub used : (o : Operand) → blocksIn b o .count ≡ count
-  pub step : (o : Operand) → Stepped count (blocksIn b o .offsets) (asStep (blocksIn b o .step))
-  pub offsets : (o : Operand) (k : ℕ) → k < count → getD (blocksIn b o .offsets) k 0 ≡ word 64 (offsetIn (wordOf 64) o g (first + k))
+-- in tensor o the block of `count` counts of g from `first` on
+pub record Blocked (o : Operand) (g : List Label) (first count : ℕ) (b : Block) : Type 0 where
+  pub used : b .count ≡ count
+  pub step : Stepped count (b .offsets) (asStep (b .step))
+  pub offsets : (k : ℕ) → k < count → getD (b .offsets) k 0 ≡ word 64 (offsetIn (wordOf 64) o g (first + k))

@@ -25,9 +25,7 @@ use Rattle.questions.proofs.Refusal.{refusal-both}
 use Rattle.groups.specs.declared.groups.Group.{Group}
 use Rattle.groups.specs.Groups.{batch, row, column, size}
 use Rattle.groups.specs.Held.{labelsIn}
-use Rattle.offsets.specs.declared.offsets.Offsets.{Offsets}
 use Rattle.offsets.specs.Counts.{offsetIn}
-use Rattle.offsets.specs.Offsets.{wordsIn, Words}
 use Rattle.meaning.specs.Meaning.{Slices}
 use Rattle.plan.specs.declared.plan.Plan.{Plan}
 use Rattle.plan.specs.Plan.{Planned, planned}
@@ -39,7 +37,8 @@ use Rattle.tiles.specs.Progress.{State, stateAt}
 use Rattle.tiles.specs.Setting.{render}
 use Rattle.tiles.proofs.Closed.{Sound, render-shows}
 use Rattle.tile_blocks.specs.ContractionInTiles.{cutOf, setting}
-use Rattle.tile_blocks.specs.Planned.{GridOf, PlanFits, placeD}
+use Rattle.tile_blocks.specs.Planned.{GridOf, PlanFits, atBatch, placeD}
+use Rattle.tile_blocks.specs.TilePlaces.{movedFrom}
 use Rattle.tile_questions.specs.TileQuestions.{sizeQuestion, roomQuestion, doneQuestion, acceptQuestions, Accepted, tileQuestions}
 use Rattle.tiled.specs.TileCall.{ran, tileRefused, TileCall, tileCallOf, ranCall, tileCall}
 use Rattle.accept.proofs.AcceptQuestions.{same-questions, numbered, accepted}
@@ -126,32 +125,29 @@ pub grid-sizes : {p : Plan} {g : Grid} → GridOf p g
 grid-sizes o = (ap (λ (G : Cut). G .H) (o .same), ap (λ (G : Cut). G .M) (o .same), ap (λ (G : Cut). G .N) (o .same))
 
 -- the place of row count i, from where the batch and the column count stand in D
-abbrev pub rowPlace : Group → Offsets → ℕ → ℕ
-rowPlace g from i = word 64 (from .d + word 64 (offsetIn (wordOf 64) D (labelsIn g) i))
+abbrev pub rowPlace : Group → ℕ → ℕ → ℕ
+rowPlace g from i = movedFrom from D (labelsIn g) i
 
 -- it is the plan's
-pub plan-place : (p : Plan) (h j : ℕ) {by across at from : Offsets}
-    → Words by (λ o. offsetIn (wordOf 64) o (labelsIn (planned p batch)) h) → Words at (λ o. wordsIn (p .base) o + wordsIn by o)
-    → Words across (λ o. offsetIn (wordOf 64) o (labelsIn (planned p column)) j) → Words from (λ o. wordsIn at o + wordsIn across o)
+pub plan-place : (p : Plan) (h j : ℕ) {across at from : ℕ} → across ≡ word 64 (offsetIn (wordOf 64) D (labelsIn (planned p column)) j) → at ≡ atBatch p h D → from ≡ word 64 (at + across)
     → (i : ℕ) → rowPlace (planned p row) from i ≡ placeD p h i j
 unfolding placeD
-plan-place p h j wb wa wc wf i = rw (wf .each D, wa .each D, wb .each D, wc .each D)
+plan-place p h j wc wa wf i = rw (wf, wa, wc)
 
 -- and the one that the code forms
-pub code-place : (g : Group) (from : Offsets) (i : ℕ) {by place : Offsets}
-    → Words by (λ o. offsetIn (wordOf 64) o (labelsIn g) i) → Words place (λ o. wordsIn from o + wordsIn by o) → place .d ≡ rowPlace g from i
-code-place g from i wb wp = rw (← wb .each D) (wp .each D)
+pub code-place : (g : Group) (from i : ℕ) {by place : ℕ} → by ≡ word 64 (offsetIn (wordOf 64) D (labelsIn g) i) → place ≡ word 64 (from + by) → place ≡ rowPlace g from i
+code-place g from i wb wp = rw (← wb) wp
 
 -- the letter of row count i, put there
-abbrev pub rowLetter : Cut → ℕ → ℕ → ℕ → Group → Offsets → ℕ → List ℕ → List ℕ
+abbrev pub rowLetter : Cut → ℕ → ℕ → ℕ → Group → ℕ → ℕ → List ℕ → List ℕ
 rowLetter G t h j g from i = put (λ was. letterOf (stateAt G t h i j)) (rowPlace g from i)
 
-pub row-next : (G : Cut) (t h j : ℕ) (g : Group) (from : Offsets) (i : ℕ) {at letter : ℕ} {s : State} (out : List ℕ)
+pub row-next : (G : Cut) (t h j : ℕ) (g : Group) (from i : ℕ) {at letter : ℕ} {s : State} (out : List ℕ)
     → at ≡ rowPlace g from i → letter ≡ letterOf s → s ≡ stateAt G t h i j → set out at letter ≡ rowLetter G t h j g from i out
 unfolding put
 row-next G t h j g from i out f l s = rw (f, l, s)
 
-pub rows-lettered : (p : Plan) (G : Cut) (t h j : ℕ) (from : Offsets) → ((i : ℕ) → rowPlace (planned p row) from i ≡ placeD p h i j) → (out : List ℕ)
+pub rows-lettered : (p : Plan) (G : Cut) (t h j from : ℕ) → ((i : ℕ) → rowPlace (planned p row) from i ≡ placeD p h i j) → (out : List ℕ)
     → each (G .M) (rowLetter G t h j (planned p row) from) out ≡ each (G .M) (λ i. lettered p G t h i j) out
 rows-lettered p G t h j from same = each-ext (G .M) (λ i b out. ap (λ (x : ℕ). put (λ was. letterOf (stateAt G t h i j)) x out) (same i))
 

@@ -14,8 +14,9 @@ ghost use Rattle.states.specs.Placed.{Placed, lettered, columnLetters};
 use accept::accept::Accept;
 use contraction::contraction::Contraction;
 use contraction::contraction::Lengths;
-use offsets::offsets::Offsets;
+use offsets::offsets::offset_in;
 use plan::plan::Plan;
+use tile_blocks::tile_places::at_batch;
 use tiles::grid::Grid;
 use tiles::grid::Sizes;
 use tiles::grid::State;
@@ -35,17 +36,15 @@ fn letter_rows(p: Plan, g: Grid, t: u64, h: u32, j: u32, out: &mut [u8])
     requires { ⌜ GridOf p g × Placed p (cutIn g) (length (now out)) × (h < cutIn g .H) × (j < cutIn g .N) ⌝ }
     ensures { λ _. ⌜ now (out .exit) ≡ each (cutIn g .M) (λ i. lettered p (cutIn g) t h i j) (now (out .entry)) ⌝ }
 {
-    let groups = p.groups;
-    let base = p.base;
-    let row = groups.row;
+    let o = Contraction::D;
+    let row = p.groups.row;
     let counts = g.counts;
     let rows = counts.row;
-    let from = base.plus(Offsets::of(groups.batch, h))
-        .plus(Offsets::of(groups.column, j));
+    let at_column = offset_in(p.groups.column, o, j);
+    let from = std::num::wrapping_add_u64(at_batch(p.base, p.groups.batch, o, h), at_column);
     let mut i: u32 = 0;
     while i < rows {
-        let place = from.plus(Offsets::of(row, i));
-        let at = place.d as usize;
+        let at = std::num::wrapping_add_u64(from, offset_in(row, o, i)) as usize;
         out[at] = letter_of(g.state(t, h as u64, i as u64, j as u64));
         i += 1;
     }

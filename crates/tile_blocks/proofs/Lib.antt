@@ -1,1 +1,1 @@
-pub mod TileOffsets
+pub mod TileParts

@@ -1,3 +1,4 @@
 pub mod Planned
 pub mod ContractionInTiles
 pub mod Side
+pub mod TilePlaces

@@ -1,13 +1,12 @@
 -- What the tile code computes, by the address words of a plan. Inside contracts only.
 -- Assumes nothing.
-use Prim.Native.Nat.{ℕ, _+_, _*_, _<_, _≤_}
+use Prim.Native.Nat.{ℕ, _+_, _<_, _≤_}
 use mathlib.Core.Path.{_≡_}
 use mathlib.Core.List.{List}
-use lib.Dec.{eqb}
 use lib.ListN.{getD}
 use Rattle.words.specs.Words.{word, wordOf}
 use Rattle.limits.specs.Limits.{axesLimit}
-use Rattle.contraction.specs.Operands.{Operand, D, three}
+use Rattle.contraction.specs.Operands.{Operand, D}
 use Rattle.groups.specs.Groups.{Group, batch, row, column, depth}
 use Rattle.groups.specs.Held.{labelsIn}
 use Rattle.groups.specs.Foldable.{Foldable}
@@ -15,15 +14,12 @@ use Rattle.offsets.specs.Counts.{offsetIn}
 use Rattle.offsets.specs.Offsets.{wordsIn}
 use Rattle.plan.specs.declared.plan.Plan.{Plan}
 use Rattle.plan.specs.Plan.{planned}
-use Rattle.scatter.specs.declared.blocks.Blocks.{Blocks}
-use Rattle.scatter.specs.ScatterVectors.{Blocked}
 use Rattle.tiles.specs.declared.grid.Sizes.{Sizes}
 use Rattle.tiles.specs.declared.grid.Grid.{Grid}
 use Rattle.tiles.specs.Grid.{cutIn, Fits, Counted}
-use Rattle.tiles.specs.Cut.{Cut, width, batchOf, panelOf}
+use Rattle.tiles.specs.Cut.{Cut}
 use Rattle.tiles.specs.Setting.{Setting, settingBy}
-use Rattle.tile_blocks.specs.declared.tile_offsets.TileOffsets.{TileOffsets}
-use Rattle.tile_blocks.specs.Side.{Side, left, right, both, tensorOn, groupOn, sizeOn, tileOn, blockOn}
+use Rattle.tile_blocks.specs.Side.{Side, left, right, both, tensorOn, groupOn, sizeOn}
 use Rattle.tile_blocks.specs.ContractionInTiles.{cutGroups}
 
 module _ (p : Plan) where
@@ -72,18 +68,3 @@ module _ (p : Plan) where
     pub fits : Fits (planCut z)
     pub foldable : (x : Group) → Foldable (labelsIn (planned p x))
     pub few : (x : Group) → planned p x .count ≤ axesLimit
-
-  -- the code's record of tile n's offsets
-  abbrev pub startsIn : TileOffsets → Operand → List ℕ
-  startsIn s = three (s .a) (s .b) (s .d)
-
-  abbrev pub blocksOn : TileOffsets → Side → Blocks
-  blocksOn s = both (s .rows) (s .cols)
-
-  pub record TileOffsetsOf (G : Cut) (n : ℕ) (s : TileOffsets) : Type 0 where
-    pub from : (o : Operand) → wordsIn (s .from) o ≡ atBatch (batchOf G n) o
-    pub blocks : (x : Side)
-        → Blocked (labelsIn (planned p (groupOn x))) (blockOn G n x * tileOn G x) (width (sizeOn G x) (tileOn G x) (blockOn G n x)) (blocksOn s x)
-    pub filled : s .filled ≡ width (G .K) (G .depth) (panelOf G n)
-    pub starts : (o : Operand) (k : ℕ) → k < s .filled → getD (startsIn s o) k 0 ≡ atDepth (batchOf G n) (panelOf G n * G .depth + k) o
-    pub first : s .first ≡ eqb (panelOf G n) 0

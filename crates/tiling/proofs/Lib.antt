@@ -1,3 +1,3 @@
 pub mod PackedWork
-pub mod TileSteps
+pub mod TilePhases
 pub mod WorkCases

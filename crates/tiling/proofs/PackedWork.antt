@@ -18,6 +18,7 @@ use Rattle.pack.proofs.Packing.{packed-at}
 use Rattle.tiles.specs.Cut.{Cut, width, batchOf, panelOf}
 use Rattle.tiles.proofs.Cuts.{width-le}
 use Rattle.tile_blocks.specs.Side.{Side, left, right, both, sizeOn, tileOn, blockOn}
+use Rattle.phases.specs.Phases.{packs}
 use Rattle.tiling.specs.Work.{packedBlock, packed, packedLast}
 
 -- a front, and then a front of the part behind it
@@ -37,10 +38,6 @@ pub part-room : (a b : ℕ) (f : ℕ → ℕ) (xs : List ℕ) {ys : List ℕ} �
 part-room a b f xs {ys} e h =
     let k : length ys ≡ length xs = ap length e ∙ length-front a f xs (omega arith) in
     simp (length-take, length-drop) (omega arith)
-
--- how many words a tile packs
-abbrev pub packs : Cut → ℕ
-packs G = G .rows * G .depth + G .cols * G .depth
 
 module _ (G : Cut) (entry : Side → ℕ → ℕ → ℕ → ℕ) where
   open Cut G using (K, rows, cols, depth)

@@ -6,12 +6,10 @@ ghost use Rattle.tiles.specs.Grid.{cutIn};
 ghost use Rattle.tiles.specs.Setting.{tileStep};
 ghost use Rattle.tile_blocks.specs.Planned.{GridOf, Clear, readIn, planSetting};
 ghost use Rattle.tiling.specs.Work.{packed};
-use multiply::multiply::Packing;
-use multiply::multiply::multiply;
-use pack::pack::pack;
+use phases::phases::multiply_into_d;
+use phases::phases::pack_a;
+use phases::phases::pack_b;
 use plan::plan::Plan;
-use store::store::Factors;
-use tile_blocks::tile_offsets::TileOffsets;
 use tiles::grid::Grid;
 
 // One tile, in three phases: A's block is packed, B's block is packed right after it, and their product goes to D.
@@ -34,25 +32,10 @@ pub fn run_tile(
         ≡ tileStep (planSetting p (cutIn g) alpha beta (now (a .entry)) (now (b .entry))) n (now (d .entry)))
         × (now (work .exit) ≡ packed (cutIn g) (readIn p (now (a .entry)) (now (b .entry))) n (now (work .entry))) ⌝ }
 {
-    let s = TileOffsets::of(p, g, n);
+    let at = g.tile(n);
     let sizes = g.sizes;
-    let rows = sizes.rows as usize;
-    let cols = sizes.cols as usize;
-    let depth = sizes.depth as usize;
-    let filled = s.filled;
-    let behind = rows * depth;
-    pack(a, &s.a, filled, s.rows.a, rows, depth, work);
-    pack(b, &s.b, filled, s.cols.b, cols, depth, &mut work[behind..]);
-    let packing = Packing {
-        rows,
-        cols,
-        depth,
-        filled,
-    };
-    let factors = Factors {
-        alpha,
-        beta,
-        first: s.first,
-    };
-    multiply(work, d, s.from.d, s.rows.d, s.cols.d, packing, factors);
+    let behind = (sizes.rows as usize) * (sizes.depth as usize);
+    pack_a(p, g, at, a, work);
+    pack_b(p, g, at, b, &mut work[behind..]);
+    multiply_into_d(p, g, at, alpha, beta, work, d);
 }

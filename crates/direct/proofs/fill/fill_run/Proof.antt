@@ -11,24 +11,20 @@ use lib.ListN.{length, getD, set, length-set}
 use Rattle.words.specs.Words.{word}
 use Rattle.words.specs.Loops.{each, put}
 use Rattle.words.proofs.Modular.{word-add-left, word-mul-right}
-use Rattle.contraction.specs.Operands.{Operand, A, B, D}
+use Rattle.contraction.specs.Operands.{Operand, D, operandNumber}
 use Rattle.groups.specs.Groups.{Label}
 use Rattle.groups.specs.Held.{labelsIn}
 use Rattle.offsets.specs.declared.offsets.Offsets.{Offsets}
 use Rattle.offsets.specs.Offsets.{wordsIn, Words}
+use Rattle.offsets.proofs.OwnedWords.{words-fit}
 use Rattle.meaning.specs.Meaning.{combined}
 use Rattle.direct.specs.Walk.{steps, sumFrom, filled, Readable, Clear}
 use Rattle.direct.proofs.fill.fill_run.Statement.{statement}
 use Rattle.direct.proofs.fill.fill_run.Tie as tie
 
 -- no step, and one more
-at-first : (from step : Offsets) → from .a < 2 ^ 64 → from .b < 2 ^ 64 → from .d < 2 ^ 64 → wordsIn from ≡ steps from step 0
-at-first from step p q r = fun-ext same
-  where
-    same : (o : Operand) → wordsIn from o ≡ steps from step 0 o
-    same A = omega arith
-    same B = omega arith
-    same D = omega arith
+at-first : (from step : Offsets) → ((k : ℕ) → getD (from .words) k 0 < 2 ^ 64) → wordsIn from ≡ steps from step 0
+at-first from step h = fun-ext (λ o. omega (arith, h (operandNumber o)))
 
 at-next : (from step at r : Offsets) (v : ℕ) → wordsIn at ≡ steps from step v → Words r (λ o. wordsIn at o + wordsIn step o)
     → wordsIn r ≡ steps from step (v + 1)
@@ -73,10 +69,7 @@ loop-holds : tie.Need-loop-holds Inv-loop μ-loop
 unfolding each
 loop-holds c =
     let s = c .before .before .before in
-    let p : s .args .from .a < 2 ^ 64 = omega arith in
-    let q : s .args .from .b < 2 ^ 64 = omega arith in
-    let r : s .args .from .d < 2 ^ 64 = omega arith in
-    (omega arith, refl, at-first (s .args .from) (s .args .step) p q r, refl)
+    (omega arith, refl, at-first (s .args .from) (s .args .step) (words-fit (s .args .from .words) _ (s .good .1 .1 .1 .1 .1 .0 .1 .1 .0 .1 .1)), refl)
 
 depth-sum-requires : tie.Need-depth-sum-requires Inv-loop μ-loop
 depth-sum-requires c κs =
@@ -84,18 +77,21 @@ depth-sum-requires c κs =
     let l = c .before .loop in
     (s .pre .0, subst (Readable (labelsIn (s .args .depth .group)) (s .args .a .now) (s .args .b .now)) (sym (l .inv .2)) (s .pre .1 .reads (l .v) (omega arith)))
 
+element-copy-out-place : tie.Need-element-copy-out-place Inv-loop μ-loop
+element-copy-out-place c = omega arith
+
 mul-old : tie.Need-mul-old Inv-loop μ-loop
 mul-old c =
-    let s = c .before .before .before .before .before .before in
-    let l = c .before .before .loop in
-    let h : l .at .d < length (s .args .d .now) = inside (s .pre .1) (l .inv .2) (omega arith) in
+    let s = c .before .before .before .before .before .before .before in
+    let l = c .before .before .before .loop in
+    let h : wordsIn (l .at) D < length (s .args .d .now) = inside (s .pre .1) (l .inv .2) (omega arith) in
     omega arith
 
 slice-read-old : tie.Need-slice-read-old Inv-loop μ-loop
 slice-read-old c =
-    let s = c .before .before .before .before .before .before .before in
-    let l = c .before .before .before .loop in
-    let h : l .at .d < length (s .args .d .now) = inside (s .pre .1) (l .inv .2) (omega arith) in
+    let s = c .before .before .before .before .before .before .before .before in
+    let l = c .before .before .before .before .loop in
+    let h : wordsIn (l .at) D < length (s .args .d .now) = inside (s .pre .1) (l .inv .2) (omega arith) in
     omega arith
 
 combine-requires : tie.Need-combine-requires Inv-loop μ-loop
@@ -118,12 +114,12 @@ loop-less c = omega arith
 
 loop-again : tie.Need-loop-again Inv-loop μ-loop
 loop-again c =
-    let s = c .before .before .before .before .before .before .before .before .before in
-    let l = c .before .before .before .before .before .loop in (
+    let s = c .before .before .before .before .before .before .before .before .before .before in
+    let l = c .before .before .before .before .before .before .loop in (
       omega arith,
       simp length-set (l .inv .1),
       at-next (s .args .from) (s .args .step) (l .at) (c .plus .result) (l .v) (l .inv .2) (c .plus .ensures),
-      turn _ _ _ _ _ (steps (s .args .from) (s .args .step)) _ _ _ _ _ _ (l .inv .2) (l .inv .3) (c .before .before .before .depth-sum .ensures) (c .before .combine .ensures),
+      turn _ _ _ _ _ (steps (s .args .from) (s .args .step)) _ _ _ _ _ _ (l .inv .2) (l .inv .3) (c .before .before .before .before .depth-sum .ensures) (c .before .combine .ensures),
     )
 
 same-length : tie.Need-same-length Inv-loop μ-loop
@@ -144,6 +140,7 @@ fill-run-spec =
     μ-loop
     loop-holds
     depth-sum-requires
+    element-copy-out-place
     mul-old
     slice-read-old
     combine-requires

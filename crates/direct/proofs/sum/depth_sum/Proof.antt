@@ -19,14 +19,14 @@ use Rattle.offsets.specs.declared.offsets.Offsets.{Offsets}
 use Rattle.offsets.specs.Counts.{offsetIn}
 use Rattle.offsets.specs.Offsets.{wordsIn, Words}
 use Rattle.direct.specs.declared.walk.Walk.{Walk}
-use Rattle.direct.specs.Walk.{stepped, reached, dot, sumFrom, Walks}
+use Rattle.direct.specs.Walk.{stepped, reached, steps, dot, runSum, sumFrom, Walks}
 use Rattle.direct.proofs.GroupRuns.{run-below, run-starts, run-place}
 use Rattle.direct.proofs.sum.depth_sum.Statement.{statement}
 use Rattle.direct.proofs.sum.depth_sum.Tie as tie
 
 -- A's word × B's word at a count
 abbrev term : List Label → List ℕ → List ℕ → Offsets → ℕ → ℕ
-term g a b from n = getD a (reached A (from .a) g n) 0 * getD b (reached B (from .b) g n) 0
+term g a b from n = getD a (reached A (wordsIn from A) g n) 0 * getD b (reached B (wordsIn from B) g n) 0
 
 -- two parts of a sum, by their words
 parts : (n m : ℕ) (f : ℕ → ℕ) {s p r : ℕ} → s ≡ word 32 (sumTo n f) → p ≡ word 32 (sumTo m (λ i. f (n + i))) → r ≡ word 32 (s + p) → r ≡ word 32 (sumTo (n + m) f)
@@ -42,7 +42,7 @@ module _ {g : List Label} {w : Walk} (k : Walks g w) (from : Offsets) (m : ℕ) 
   inside o n h i = record { each = λ v l. rw (place o v l) (i .each (w .len * m + v) (run-below g w k m v h l)) }
 
   turn : (a b : List ℕ) {s p r : ℕ} → s ≡ word 32 (sumTo (w .len * m) (term g a b from))
-      → p ≡ word 32 (dot (w .len) (stepped (at .a) (w .step .a)) a (stepped (at .b) (w .step .b)) b)
+      → p ≡ word 32 (runSum (w .len) (steps at (w .step)) a b)
       → r ≡ word 32 (s + p) → r ≡ word 32 (sumTo (w .len * (m + 1)) (term g a b from))
   unfolding dot
   turn a b es ep er =
@@ -78,7 +78,7 @@ run-sum-requires c κs =
     let m = c .before .before .before .loop .m in
     let h : m < s .args .depth .runs = omega arith in
     let run = inside (s .pre .0) (s .args .from) m (c .before .of .ensures) (c .plus .ensures) in
-    (run A _ h (s .pre .1 .inA), run B _ h (s .pre .1 .inB))
+    record { inA = run A _ h (s .pre .1 .inA); inB = run B _ h (s .pre .1 .inB) }
 
 wrapping-add-u32-requires : tie.Need-wrapping-add-u32-requires Inv-loop μ-loop
 wrapping-add-u32-requires c κs = tt

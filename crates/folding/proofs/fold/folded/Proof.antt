@@ -100,9 +100,6 @@ mul-l c = omega arith
 element-copy-out-l : tie.Need-element-copy-out-l Inv-loop μ-loop
 element-copy-out-l c = omega arith
 
-cast-has-letter : tie.Need-cast-has-letter Inv-loop μ-loop
-cast-has-letter c = search needs
-
 has-letter-requires : tie.Need-has-letter-requires Inv-loop μ-loop
 has-letter-requires c κs = tt
 
@@ -117,7 +114,7 @@ element-copy-out-p c = omega (arith, c .last-place .ensures)
 
 joins-last-requires : tie.Need-joins-last-requires Inv-loop μ-loop
 joins-last-requires c κs =
-    let l = c .before .before .before .before .before .before .before .before .loop in
+    let l = c .before .before .before .before .before .before .before .loop in
     λ z. rw (c .before .last-place .ensures) (small-last (holding (l .out .dims) (l .n)) z (l .inv .3 .foldable))
 
 pick-requires : tie.Need-pick-requires Inv-loop μ-loop
@@ -126,18 +123,18 @@ pick-requires c κs = tt
 -- the place is that of the last label, or the one behind it
 place-is : (c : tie.After-merged Inv-loop μ-loop)
     → c .before .pick .result
-    ≡ cond (c .before .before .joins-last .result) (c .before .before .before .before .before .before .before .before .before .before .before .loop .n - 1)
-    (c .before .before .before .before .before .before .before .before .before .before .before .loop .n)
+    ≡ cond (c .before .before .joins-last .result) (c .before .before .before .before .before .before .before .before .before .before .loop .n - 1)
+    (c .before .before .before .before .before .before .before .before .before .before .loop .n)
 place-is c = c .before .pick .ensures ∙ rw (c .before .before .before .before .last-place .ensures)
 
 placed : (c : tie.After-merged Inv-loop μ-loop)
-    → c .before .pick .result ≤ c .before .before .before .before .before .before .before .before .before .before .before .loop .n
+    → c .before .pick .result ≤ c .before .before .before .before .before .before .before .before .before .before .loop .n
 placed c = rw (place-is c) (not-above (c .before .before .joins-last .result) _)
 
 merged-requires : tie.Need-merged-requires Inv-loop μ-loop
 merged-requires c κs =
-    let l = c .before .before .before .before .before .before .before .before .before .before .loop in
-    let s = c .before .before .before .before .before .before .before .before .before .before .before .before in
+    let l = c .before .before .before .before .before .before .before .before .before .loop in
+    let s = c .before .before .before .before .before .before .before .before .before .before .before in
     λ e.
     let d = s .args .t1 .dims in
     let g = holding (l .out .dims) (l .n) in
@@ -150,16 +147,16 @@ merged-requires c κs =
     rw (c .before .before .before .last-place .ensures)
     (joined-fits g (ltb-true 0 (l .n) (j .0)) (getD d (l .i) noDim) (l .inv .3 .foldable) (f .foldable) (j .1))
 
-mul-t22 : tie.Need-mul-t22 Inv-loop μ-loop
-mul-t22 c = let l = c .before .before .before .before .before .before .before .before .before .before .before .loop in omega (arith, placed c, l .inv .1)
+mul-t21 : tie.Need-mul-t21 Inv-loop μ-loop
+mul-t21 c = let l = c .before .before .before .before .before .before .before .before .before .before .loop in omega (arith, placed c, l .inv .1)
 
 element-set-from-out : tie.Need-element-set-from-out Inv-loop μ-loop
 element-set-from-out c =
-    let l = c .before .before .before .before .before .before .before .before .before .before .before .loop in
+    let l = c .before .before .before .before .before .before .before .before .before .before .loop in
     omega (arith, placed c, l .inv .1)
 
 add-n : tie.Need-add-n Inv-loop μ-loop
-add-n c = let l = c .before .before .before .before .before .before .before .before .before .before .before .loop in omega (arith, placed c, l .inv .1)
+add-n c = let l = c .before .before .before .before .before .before .before .before .before .before .loop in omega (arith, placed c, l .inv .1)
 
 add-i : tie.Need-add-i Inv-loop μ-loop
 add-i c = omega arith
@@ -169,8 +166,8 @@ loop-less c = omega arith
 
 loop-again : tie.Need-loop-again Inv-loop μ-loop
 loop-again c =
-    let l = c .before .before .before .before .before .before .loop in
-    let s = c .before .before .before .before .before .before .before .before in
+    let l = c .before .before .before .before .before .loop in
+    let s = c .before .before .before .before .before .before .before in
     let n : l .i < s .args .t1 .count = omega arith in
     let h = c .before .before .has-letter .ensures in
     let turn = turn-skip (inSet (s .args .set)) (s .args .t1 .dims) (s .args .t1 .count) (l .i) (labelsIn (holding (l .out .dims) (l .n))) n (l .inv .3) in
@@ -209,7 +206,6 @@ folded-spec =
     loop-holds
     mul-l
     element-copy-out-l
-    cast-has-letter
     has-letter-requires
     last-place-requires
     mul-p
@@ -217,7 +213,7 @@ folded-spec =
     joins-last-requires
     pick-requires
     merged-requires
-    mul-t22
+    mul-t21
     element-set-from-out
     add-n
     add-i

@@ -17,7 +17,8 @@ use Rattle.tiles.proofs.Visits.{tiles-next, walk-next}
 use Rattle.tiles.proofs.Closed.{length-walk}
 use Rattle.tile_blocks.specs.Planned.{readIn, planSetting, Clear}
 use Rattle.tiling.specs.Work.{packed, packedLast}
-use Rattle.tiling.proofs.PackedWork.{packs, packed-next, length-last}
+use Rattle.phases.specs.Phases.{packs}
+use Rattle.tiling.proofs.PackedWork.{packed-next, length-last}
 use Rattle.tiling.proofs.run_tiles.run_tiles.Statement.{statement}
 use Rattle.tiling.proofs.run_tiles.run_tiles.Tie as tie
 

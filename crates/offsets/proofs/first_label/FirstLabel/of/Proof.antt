@@ -1,34 +1,27 @@
--- `FirstLabel::of` meets its contract: with no label the group has one count, else it is the first.
+-- `FirstLabel::of` meets its contract: with no label the group has one count, else it is the first, and one more of it moves by its strides.
 -- Assumes nothing.
 use mathlib.Core.Path.{_≡_, refl, sym, ap, _∙_}
 use mathlib.Core.List.{List, [], _∷_, map}
-use Prim.Native.Nat.{ℕ, zero, suc, _^_, _<_}
+use mathlib.Core.Bool.{Bool, true, false, cond}
+use Prim.Native.Nat.{ℕ, zero, suc, _-_, _*_, _^_, _<_}
 use native.Mathlib.Omega.{arith}
 use borrow.Author.Needs.{needs}
-use lib.ListN.{length, getD, drop, length-map}
-use mir.Val.{Val}
-use denote.Array.{each}
-use denote.Shadow.{shadow}
-use Rattle.words.specs.Words.{wordOf}
+use borrow.Author.Tests.{ltb-true}
+use lib.Dec.{ltb}
+use lib.IntN.{pos, negsuc}
+use lib.ListN.{getD, drop}
+use Rattle.words.specs.Words.{word, wordOf, signed}
 use Rattle.words.specs.Lists.{firstOf}
-use Rattle.words.proofs.Whole.{word-signed}
-use Rattle.limits.specs.Limits.{axesLimit}
-use Rattle.contraction.specs.Operands.{Operand, A, B, D, three}
+use Rattle.contraction.specs.Operands.{byTensor}
 use Rattle.groups.specs.declared.groups.Dim.{Dim}
 use Rattle.groups.specs.declared.groups.Group.{Group}
 use Rattle.groups.specs.Groups.{Label}
 use Rattle.groups.specs.Held.{asLabel, noDim, labelsIn}
-use Rattle.groups.proofs.groups.Dim.{the-field}
+use Rattle.offsets.specs.declared.offsets.Offsets.{Offsets}
+use Rattle.offsets.specs.Offsets.{Words}
 use Rattle.offsets.specs.FirstLabel.{firstLabel, FirstLabelOf}
 use Rattle.offsets.proofs.first_label.FirstLabel.of.Statement.{statement}
 use Rattle.offsets.proofs.first_label.FirstLabel.of.Tie as tie
-
--- the strides of an array's first label fit 64 bits, by what the array owns
-strides-fit : (dims : List Dim) (us : List Val) → shadow (each (the-field .row .Denot) (the-field .row .own) (map (the-field .into) dims) us) → 0 < length dims
-    → (getD dims 0 noDim .a < 2 ^ 64) × (getD dims 0 noDim .b < 2 ^ 64) × (getD dims 0 noDim .d < 2 ^ 64)
-strides-fit [] us h p = absurd (omega arith)
-strides-fit (x ∷ xs) [] h p = absurd h
-strides-fit (x ∷ xs) (u ∷ us) h p = (omega (arith, h .0), omega (arith, h .0), omega (arith, h .0))
 
 no-label : (g : Group) → g .count ≡ 0 → labelsIn g ≡ []
 unfolding labelsIn
@@ -43,41 +36,43 @@ first g h = go (g .count) h
     go (suc n) p = refl
 
 -- no label: one count
-still : (g : Group) → g .count ≡ 0 → FirstLabelOf (labelsIn g) (record { step = record { a = 0; b = 0; d = 0 }; len = 1 })
-still g z = record { len = rw (no-label g z); step = λ o. rw (no-label g z) (same o) }
+still : (g : Group) (s : Offsets) → g .count ≡ 0 → Words s (λ o. 0) → FirstLabelOf (labelsIn g) (record { step = s; len = 1 })
+still g s z w = record { len = rw (no-label g z); step = λ o. rw (no-label g z) (w .each o) }
+
+-- what an address word reads as is one again
+once : (x : ℕ) → word 64 (1 * wordOf 64 (signed 64 x)) ≡ wordOf 64 (signed 64 x)
+once x = go (ltb x (2 ^ 63)) refl
   where
-    same : (o : Operand) → three {X = ℕ} 0 0 0 o ≡ 0
-    same A = refl
-    same B = refl
-    same D = refl
+    go : (b : Bool) → ltb x (2 ^ 63) ≡ b → word 64 (1 * wordOf 64 (cond b (pos x) (negsuc ((2 ^ 64 - 1) - x)))) ≡ wordOf 64 (cond b (pos x) (negsuc ((2 ^ 64 - 1) - x)))
+    go true e = omega (arith, ltb-true x (2 ^ 63) e)
+    go false e = omega arith
 
 -- a first label l
-module _ (g : List Label) (l : Dim) (e : g ≡ asLabel l ∷ drop 1 g) (a : l .a < 2 ^ 64) (b : l .b < 2 ^ 64) (d : l .d < 2 ^ 64) where
-  word : (o : Operand) → three (l .a) (l .b) (l .d) o ≡ wordOf 64 (asLabel l .stride o)
-  word A = sym (word-signed (l .a) a)
-  word B = sym (word-signed (l .b) b)
-  word D = sym (word-signed (l .d) d)
+along : (g : List Label) (l : Dim) (s : Offsets) → g ≡ asLabel l ∷ drop 1 g → Words s (λ o. 1 * wordOf 64 (asLabel l .stride o))
+    → FirstLabelOf g (record { step = s; len = l .extent })
+along g l s e w =
+    record {
+      len = sym (ap (λ (x : List Label). firstLabel x .extent) e);
+      step = λ o. w .each o ∙ once (byTensor (l .strides) o) ∙ sym (ap (λ (x : List Label). wordOf 64 (firstLabel x .stride o)) e);
+    }
 
-  along : FirstLabelOf g (record { step = record { a = l .a; b = l .b; d = l .d }; len = l .extent })
-  along =
-      record {
-        len = sym (ap (λ (x : List Label). firstLabel x .extent) e);
-        step = λ o. word o ∙ sym (ap (λ (x : List Label). wordOf 64 (firstLabel x .stride o)) e);
-      }
+none-requires : tie.Need-none-requires
+none-requires c κs = tt
 
 returns : tie.Need-returns
-returns c = still (c .before .before .args .g) (omega arith)
+returns c = still (c .before .before .args .t1) (c .none .result) (omega arith) (c .none .ensures)
 
-array-copy-out-l : tie.Need-array-copy-out-l
-array-copy-out-l c = search needs
+element-copy-out-l : tie.Need-element-copy-out-l
+element-copy-out-l c = search needs
+
+along-requires : tie.Need-along-requires
+along-requires c κs = tt
 
 returns-2 : tie.Need-returns-2
 returns-2 c =
-    let s = c .before .before .before .before in
-    let len : length (s .args .g .dims) ≡ axesLimit = simp length-map at (s .good .0 .1 .1 .0 .1 .0 .1) in
-    let fits = strides-fit (s .args .g .dims) (s .good .0 .1 .1 .0 .0) (s .good .0 .1 .1 .0 .1 .1) (omega arith) in
-    let n : 0 < s .args .g .count = omega arith in
-    along (labelsIn (s .args .g)) (getD (s .args .g .dims) 0 noDim) (first (s .args .g) n) (fits .0) (fits .1) (fits .2)
+    let s = c .before .before .before in
+    let n : 0 < s .args .t1 .count = omega arith in
+    along (labelsIn (s .args .t1)) (getD (s .args .t1 .dims) 0 noDim) (c .along .result) (first (s .args .t1) n) (c .along .ensures)
 
 pub of-spec : {M : Type 1} → statement M
-of-spec = tie.close (tie.spec returns array-copy-out-l returns-2)
+of-spec = tie.close (tie.spec none-requires returns element-copy-out-l along-requires returns-2)

@@ -1,27 +1,86 @@
--- `Offsets::plus` meets its contract: each of the three sums wraps.
+-- `Offsets::plus` meets its contract. The invariant: at the places of the first o tensors stand the sums, which wrap. The measure is how many are left.
 -- Assumes nothing.
-use borrow.Author.Needs.{needs}
-use Rattle.offsets.proofs.OffsetWords.{by-words}
+use mathlib.Core.Path.{_≡_, refl, sym}
+use Prim.Native.Nat.{ℕ, _+_, _-_, _≤_}
+use native.Mathlib.Omega.{arith}
+use lib.ListN.{getD}
+use Rattle.words.specs.Words.{word}
+use Rattle.words.specs.Fronts.{front}
+use Rattle.words.proofs.Fronts.{front-none}
+use Rattle.contraction.specs.Operands.{tensorCount}
+use Rattle.offsets.specs.declared.offsets.Offsets.{Offsets}
+use Rattle.offsets.proofs.OffsetWords.{next-place, by-places}
 use Rattle.offsets.proofs.offsets.Offsets.plus.Statement.{statement}
 use Rattle.offsets.proofs.offsets.Offsets.plus.Tie as tie
 
-wrapping-add-u64-requires : tie.Need-wrapping-add-u64-requires
-wrapping-add-u64-requires c κs = search needs
+-- the sum at a place
+abbrev sumAt : Offsets → Offsets → ℕ → ℕ
+sumAt x y k = word 64 (getD (x .words) k 0 + getD (y .words) k 0)
 
-wrapping-add-u64-requires-2 : tie.Need-wrapping-add-u64-requires-2
-wrapping-add-u64-requires-2 c κs = search needs
+abbrev Inv-loop : tie.InvT-loop
+Inv-loop self by words₀ o₀ words o = (o ≤ tensorCount) × (words ≡ front o (sumAt self by) words₀)
 
-wrapping-add-u64-requires-3 : tie.Need-wrapping-add-u64-requires-3
-wrapping-add-u64-requires-3 c κs = search needs
+abbrev μ-loop : tie.MeasureT-loop
+μ-loop self by words₀ o₀ words o = tensorCount - o
 
-returns : tie.Need-returns
-returns c = by-words (c .before .before .wrapping-add-u64 .ensures) (c .before .wrapping-add-u642 .ensures) (c .wrapping-add-u643 .ensures)
+loop-holds : tie.Need-loop-holds Inv-loop μ-loop
+loop-holds c = (omega arith, sym (front-none (sumAt (c .args .t1) (c .args .t2)) _))
+
+mul-wrapping-add-u64 : tie.Need-mul-wrapping-add-u64 Inv-loop μ-loop
+mul-wrapping-add-u64 c = omega arith
+
+element-copy-out-wrapping-add-u64 : tie.Need-element-copy-out-wrapping-add-u64 Inv-loop μ-loop
+element-copy-out-wrapping-add-u64 c = omega arith
+
+mul-wrapping-add-u64-2 : tie.Need-mul-wrapping-add-u64-2 Inv-loop μ-loop
+mul-wrapping-add-u64-2 c = omega arith
+
+element-copy-out-wrapping-add-u64-2 : tie.Need-element-copy-out-wrapping-add-u64-2 Inv-loop μ-loop
+element-copy-out-wrapping-add-u64-2 c = omega arith
+
+wrapping-add-u64-requires : tie.Need-wrapping-add-u64-requires Inv-loop μ-loop
+wrapping-add-u64-requires c κs = tt
+
+mul-words : tie.Need-mul-words Inv-loop μ-loop
+mul-words c = omega arith
+
+array-write-words : tie.Need-array-write-words Inv-loop μ-loop
+array-write-words c = omega arith
+
+add-o : tie.Need-add-o Inv-loop μ-loop
+add-o c = omega arith
+
+loop-less : tie.Need-loop-less Inv-loop μ-loop
+loop-less c = omega arith
+
+loop-again : tie.Need-loop-again Inv-loop μ-loop
+loop-again c =
+    let l = c .before .before .before .before .loop in
+    let s = c .before .before .before .before .before in
+    (omega arith, next-place (sumAt (s .args .t1) (s .args .t2)) _ (omega arith) (l .inv .1) (c .wrapping-add-u64 .ensures))
+
+returns : tie.Need-returns Inv-loop μ-loop
+returns c =
+    let l = c .before .loop in
+    let s = c .before .before in
+    let z : l .o ≡ tensorCount = omega arith in
+    by-places (sumAt (s .args .t1) (s .args .t2)) _ _ (rw z at (l .inv .1)) (λ o. refl)
 
 pub plus-spec : {M : Type 1} → statement M
 plus-spec =
     tie.close
     (tie.spec
+    Inv-loop
+    μ-loop
+    loop-holds
+    mul-wrapping-add-u64
+    element-copy-out-wrapping-add-u64
+    mul-wrapping-add-u64-2
+    element-copy-out-wrapping-add-u64-2
     wrapping-add-u64-requires
-    wrapping-add-u64-requires-2
-    wrapping-add-u64-requires-3
+    mul-words
+    array-write-words
+    add-o
+    loop-less
+    loop-again
     returns)
