@@ -7,6 +7,7 @@ use Prim.Native.Nat.{ℕ, _+_, _-_, _*_, _^_, _<_, _≤_}
 use native.Mathlib.Numerals.{add-one}
 use native.Mathlib.Omega.{arith}
 use borrow.Author.Needs.{needs}
+use lib.Dec.{lit<}
 use lib.ListN.{length, getD, set, length-set}
 use Rattle.words.specs.Words.{word}
 use Rattle.words.specs.Loops.{each, put}
@@ -78,7 +79,7 @@ depth-sum-requires c κs =
     (s .pre .0, subst (Readable (labelsIn (s .args .depth .group)) (s .args .a .now) (s .args .b .now)) (sym (l .inv .2)) (s .pre .1 .reads (l .v) (omega arith)))
 
 element-copy-out-place : tie.Need-element-copy-out-place Inv-loop μ-loop
-element-copy-out-place c = omega arith
+element-copy-out-place c = lit< tt
 
 mul-old : tie.Need-mul-old Inv-loop μ-loop
 mul-old c =

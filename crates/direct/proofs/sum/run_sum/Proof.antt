@@ -6,6 +6,7 @@ use mathlib.Core.List.{List}
 use Prim.Native.Nat.{ℕ, _+_, _*_, _-_, _^_, _≤_, _<_}
 use native.Mathlib.Numerals.{add-one}
 use native.Mathlib.Omega.{arith}
+use lib.Dec.{lit<}
 use lib.ListN.{getD}
 use Rattle.words.specs.Words.{word}
 use Rattle.words.specs.Sums.{sumTo}
@@ -44,16 +45,16 @@ abbrev μ-loop : tie.MeasureT-loop
 μ-loop a b len step-a step-b i₀ j₀ sum₀ v₀ i j sum v = len - v
 
 element-copy-out-step-a : tie.Need-element-copy-out-step-a Inv-loop μ-loop
-element-copy-out-step-a c = omega arith
+element-copy-out-step-a c = lit< tt
 
 element-copy-out-step-b : tie.Need-element-copy-out-step-b Inv-loop μ-loop
-element-copy-out-step-b c = omega arith
+element-copy-out-step-b c = lit< tt
 
 element-copy-out-i : tie.Need-element-copy-out-i Inv-loop μ-loop
-element-copy-out-i c = omega arith
+element-copy-out-i c = lit< tt
 
 element-copy-out-j : tie.Need-element-copy-out-j Inv-loop μ-loop
-element-copy-out-j c = omega arith
+element-copy-out-j c = lit< tt
 
 loop-holds : tie.Need-loop-holds Inv-loop μ-loop
 unfolding dot sumTo
@@ -63,16 +64,16 @@ loop-holds c =
     (omega arith, at-first (wordsIn (s .args .t4) A) (fits 0), at-first (wordsIn (s .args .t4) B) (fits 1), refl)
 
 mul-mul : tie.Need-mul-mul Inv-loop μ-loop
-mul-mul c = omega (arith, placed (c .before .before .before .before .before .before .before .before .pre .inA) (c .before .loop .inv .1) (omega arith))
+mul-mul c = omega (arith, placed (c .before .before .before .before .before .before .before .before .pre .inA) (c .before .loop .inv .1) (c .loop-test .taken))
 
 shared-slice-read-mul : tie.Need-shared-slice-read-mul Inv-loop μ-loop
-shared-slice-read-mul c = placed (c .before .before .before .before .before .before .before .before .before .pre .inA) (c .before .before .loop .inv .1) (omega arith)
+shared-slice-read-mul c = placed (c .before .before .before .before .before .before .before .before .before .pre .inA) (c .before .before .loop .inv .1) (c .before .loop-test .taken)
 
 mul-mul-2 : tie.Need-mul-mul-2 Inv-loop μ-loop
-mul-mul-2 c = omega (arith, placed (c .before .before .before .before .before .before .before .before .before .pre .inB) (c .before .before .loop .inv .2) (omega arith))
+mul-mul-2 c = omega (arith, placed (c .before .before .before .before .before .before .before .before .before .pre .inB) (c .before .before .loop .inv .2) (c .before .loop-test .taken))
 
 shared-slice-read-mul-2 : tie.Need-shared-slice-read-mul-2 Inv-loop μ-loop
-shared-slice-read-mul-2 c = placed (c .before .before .before .before .before .before .before .before .before .before .pre .inB) (c .before .before .before .loop .inv .2) (omega arith)
+shared-slice-read-mul-2 c = placed (c .before .before .before .before .before .before .before .before .before .before .pre .inB) (c .before .before .before .loop .inv .2) (c .before .before .loop-test .taken)
 
 mul-requires : tie.Need-mul-requires Inv-loop μ-loop
 mul-requires c κs = tt
