@@ -25,7 +25,7 @@ impl Operands {
     }
 
     // The extent of a label: that of its letter where it first occurs.
-    pub fn extent(self, c: u8) -> u32
+    pub fn extent(self, c: u32) -> u32
         requires { ⌜ Gathered self ⌝ }
         ensures { λ r. ⌜ r ≡ extentOf c (together (shapeOf self)) ⌝ }
     {

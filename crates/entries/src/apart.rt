@@ -14,7 +14,7 @@ use labels::letter_sets::Labelled;
 use layout::axes::Axes;
 
 // The size of a letter's stride.
-fn stride_size(x: Axes, c: u8) -> u64
+fn stride_size(x: Axes, c: u32) -> u64
     requires { ⌜ Checked x ⌝ }
     ensures { λ r. ⌜ (r ≡ strideSize (listed x) c) × (r < 2 ^ 32) ⌝ }
 {
@@ -23,7 +23,7 @@ fn stride_size(x: Axes, c: u8) -> u64
 }
 
 // What the label d adds to the sum that c's stride size has to exceed.
-fn share(x: Axes, c: u8, d: u8) -> u64
+fn share(x: Axes, c: u32, d: u32) -> u64
     requires { ⌜ Checked x ⌝ }
     ensures { λ r. ⌜ (r ≡ cond (not (eqb c d) && leb (strideSize (listed x) d) (strideSize (listed x) c))
         ((extentOf d (listed x) - 1) * strideSize (listed x) d) 0)
@@ -38,7 +38,7 @@ fn share(x: Axes, c: u8, d: u8) -> u64
 }
 
 // The sum that c's stride size has to exceed.
-fn sum_below(x: Labelled, c: u8) -> u64
+fn sum_below(x: Labelled, c: u32) -> u64
     requires { ⌜ Lettered x ⌝ }
     ensures { λ r. ⌜ r ≡ below (listed (x .axes)) c ⌝ }
 {

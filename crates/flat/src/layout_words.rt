@@ -26,11 +26,10 @@ const STRIDE_COUNT: usize = 26;
 const BASE: usize = 27;
 
 // A letter's word: one that is no byte is read as letter 0, which question 3 refuses.
-fn letter_of(word: u32) -> u8
+fn letter_of(word: u32) -> u32
     ensures { λ r. ⌜ r ≡ letterIn word ⌝ }
 {
-    let byte = if word <= 255 { word } else { 0 };
-    byte as u8
+    if word <= 255 { word } else { 0 }
 }
 
 fn count_of(word: u32) -> usize

@@ -59,7 +59,7 @@ fn sets_of(a: u64, b: u64, d: u64) -> Sets
 }
 
 // A letter's label.
-fn dim_of(x: Operands, c: u8) -> Dim
+fn dim_of(x: Operands, c: u32) -> Dim
     requires { ⌜ Gathered x ⌝ }
     ensures { λ r. ⌜ asLabel r ≡ label (shapeOf x) c ⌝ }
 {
@@ -69,7 +69,7 @@ fn dim_of(x: Operands, c: u8) -> Dim
         stride_of(x.d.axes, c),
     ];
     Dim {
-        letter: c as u32,
+        letter: c,
         extent: x.extent(c),
         strides,
     }

@@ -11,7 +11,7 @@ ghost use Rattle.labels.specs.Labels.{strideOf, extentOf};
 use layout::axes::Axes;
 
 // The extent of a letter where it first occurs, `other` where it is absent. From the last axis to the first.
-pub fn extent_or(x: Axes, c: u8, other: u32) -> u32
+pub fn extent_or(x: Axes, c: u32, other: u32) -> u32
     requires { ⌜ x .count ≤ rankLimit ⌝ }
     ensures { λ r. ⌜ ((ys : List Axis) → other ≡ extentOf c ys → r ≡ extentOf c (listed x ++ ys)) ⌝ }
 {
@@ -26,7 +26,7 @@ pub fn extent_or(x: Axes, c: u8, other: u32) -> u32
 }
 
 // The extent of a letter where it first occurs, 1 where it is absent.
-pub fn extent_of(x: Axes, c: u8) -> u32
+pub fn extent_of(x: Axes, c: u32) -> u32
     requires { ⌜ x .count ≤ rankLimit ⌝ }
     ensures { λ r. ⌜ r ≡ extentOf c (listed x) ⌝ }
 {
@@ -34,7 +34,7 @@ pub fn extent_of(x: Axes, c: u8) -> u32
 }
 
 // The sum of the strides of a letter, as an address word.
-pub fn stride_of(x: Axes, c: u8) -> u64
+pub fn stride_of(x: Axes, c: u32) -> u64
     requires { ⌜ Checked x ⌝ }
     ensures { λ r. ⌜ r ≡ wordOf 64 (strideOf c (listed x)) ⌝ }
 {

@@ -16,7 +16,7 @@ use limits::limits::Limits;
 
 // Different letters in order, beside the set of them as bits of a 64-bit word.
 pub struct Letters {
-    pub letters: [u8; Limits::AXES],
+    pub letters: [u32; Limits::AXES],
     pub count: usize,
     pub set: u64,
 }
@@ -54,13 +54,12 @@ impl Letters {
     }
 
     // The letters with one more behind them, unless they have it.
-    fn with(self, c: u8) -> Letters
+    fn with(self, c: u32) -> Letters
         requires { ⌜ Spells self (spelled self) × (self .count < axesLimit) × (isLetter c ≡ true) ⌝ }
         ensures { λ r. ⌜ Spells r (added c (spelled self)) × (r .count ≤ self .count + 1) ⌝ }
     {
         let set = self.set;
-        let code = c as u32;
-        if has_letter(set, code) {
+        if has_letter(set, c) {
             return self;
         }
         let n = self.count;
@@ -69,7 +68,7 @@ impl Letters {
         Letters {
             letters,
             count: n + 1,
-            set: insert(set, code),
+            set: insert(set, c),
         }
     }
 

@@ -6,7 +6,7 @@ use limits::limits::Limits;
 
 // One letter of a tensor with its extent and its stride.
 pub struct Axis {
-    pub letter: u8,
+    pub letter: u32,
     pub extent: u32,
     pub stride: i32,
 }
@@ -21,10 +21,10 @@ pub struct Layout {
     pub base: u32,
 }
 
-fn letter_at(letters: &[u8], i: usize) -> u8
+fn letter_at(letters: &[u8], i: usize) -> u32
     ensures { λ r. ⌜ r ≡ getD (now (letters .entry)) i 0 ⌝ }
 {
-    if i < letters.len() { letters[i] } else { 0 }
+    if i < letters.len() { letters[i] as u32 } else { 0 }
 }
 
 fn extent_at(extents: &[u32], i: usize) -> u32

@@ -28,6 +28,9 @@ loop-holds c = let all = c .before .args .x .letters in (omega arith, rw (from-e
 sub-i : tie.Need-sub-i Inv-loop μ-loop
 sub-i c = omega arith
 
+mul-c : tie.Need-mul-c Inv-loop μ-loop
+mul-c c = omega (arith, c .before .before .before .pre .spells .few)
+
 element-copy-out-c : tie.Need-element-copy-out-c Inv-loop μ-loop
 element-copy-out-c c = omega (arith, c .before .before .before .pre .spells .few)
 
@@ -72,6 +75,7 @@ all-apart-spec =
     μ-loop
     loop-holds
     sub-i
+    mul-c
     element-copy-out-c
     extent-of-requires
     sum-below-requires

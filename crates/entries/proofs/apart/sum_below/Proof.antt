@@ -33,6 +33,9 @@ loop-holds c = let all = c .before .args .x .letters in (omega arith, rw (from-e
 sub-i : tie.Need-sub-i Inv-loop μ-loop
 sub-i c = omega arith
 
+mul-share : tie.Need-mul-share Inv-loop μ-loop
+mul-share c = omega (arith, c .before .before .before .pre .spells .few)
+
 element-copy-out-share : tie.Need-element-copy-out-share Inv-loop μ-loop
 element-copy-out-share c = omega (arith, c .before .before .before .pre .spells .few)
 
@@ -69,6 +72,7 @@ sum-below-spec =
     μ-loop
     loop-holds
     sub-i
+    mul-share
     element-copy-out-share
     share-requires
     add-sum

@@ -65,6 +65,9 @@ loop-holds c =
 sub-i : tie.Need-sub-i Inv-loop μ-loop
 sub-i c = omega arith
 
+mul-c : tie.Need-mul-c Inv-loop μ-loop
+mul-c c = omega (arith, c .before .before .before .pre .spells .few)
+
 element-copy-out-c : tie.Need-element-copy-out-c Inv-loop μ-loop
 element-copy-out-c c = omega (arith, c .before .before .before .pre .spells .few)
 
@@ -113,6 +116,7 @@ reach-of-spec =
     μ-loop
     loop-holds
     sub-i
+    mul-c
     element-copy-out-c
     extent-of-requires
     stride-of-requires

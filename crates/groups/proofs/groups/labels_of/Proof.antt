@@ -35,14 +35,17 @@ none-requires c κs = tt
 loop-holds : tie.Need-loop-holds Inv-loop μ-loop
 loop-holds c = (omega arith, c .none .ensures .1, c .none .ensures .2, c .none .ensures .0)
 
+mul-dim-of : tie.Need-mul-dim-of Inv-loop μ-loop
+mul-dim-of c = omega arith
+
 element-copy-out-dim-of : tie.Need-element-copy-out-dim-of Inv-loop μ-loop
 element-copy-out-dim-of c = omega arith
 
 dim-of-requires : tie.Need-dim-of-requires Inv-loop μ-loop
 dim-of-requires c κs = c .before .before .before .before .before .pre
 
-mul-t12 : tie.Need-mul-t12 Inv-loop μ-loop
-mul-t12 c = omega arith
+mul-t13 : tie.Need-mul-t13 Inv-loop μ-loop
+mul-t13 c = omega arith
 
 element-set-from-group : tie.Need-element-set-from-group Inv-loop μ-loop
 element-set-from-group c = omega arith
@@ -85,9 +88,10 @@ labels-of-spec =
     μ-loop
     none-requires
     loop-holds
+    mul-dim-of
     element-copy-out-dim-of
     dim-of-requires
-    mul-t12
+    mul-t13
     element-set-from-group
     add-i
     loop-less

@@ -10,6 +10,9 @@ use Rattle.layout.proofs.layout.letter_at.Tie as tie
 shared-slice-read-result : tie.Need-shared-slice-read-result
 shared-slice-read-result c = search needs
 
+cast-result : tie.Need-cast-result
+cast-result c = omega (arith, c .shared-slice-known .given (c .before .before .args .i))
+
 returns : tie.Need-returns
 returns c = search needs
 
@@ -17,4 +20,4 @@ returns-2 : tie.Need-returns-2
 returns-2 c = sym (List·getD-eq-default (c .before .args .letters .now) 0 (omega arith))
 
 pub letter-at-spec : {M : Type 1} → statement M
-letter-at-spec = tie.close (tie.spec shared-slice-read-result returns returns-2)
+letter-at-spec = tie.close (tie.spec shared-slice-read-result cast-result returns returns-2)

@@ -73,6 +73,9 @@ loop-holds c =
 sub-i : tie.Need-sub-i Inv-loop μ-loop
 sub-i c = omega arith
 
+mul-extent : tie.Need-mul-extent Inv-loop μ-loop
+mul-extent c = omega (arith, c .before .before .before .pre .all .few)
+
 element-copy-out-extent : tie.Need-element-copy-out-extent Inv-loop μ-loop
 element-copy-out-extent c = omega (arith, c .before .before .before .pre .all .few)
 
@@ -115,6 +118,7 @@ points-fit-spec =
     μ-loop
     loop-holds
     sub-i
+    mul-extent
     element-copy-out-extent
     extent-requires
     capped-requires

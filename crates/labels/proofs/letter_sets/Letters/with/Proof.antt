@@ -26,11 +26,14 @@ returns c =
     let m : member (a .c) (spelled (a .self)) ≡ true = sym (pre .0 .sets (a .c) (pre .2)) ∙ sym (c .before .has-letter .ensures) ∙ c .if1 .taken in
     (rw m (pre .0), omega arith)
 
+mul-letters : tie.Need-mul-letters
+mul-letters c = search needs
+
 array-write-letters : tie.Need-array-write-letters
 array-write-letters c = search needs
 
-add-t11 : tie.Need-add-t11
-add-t11 c = search needs
+add-t7 : tie.Need-add-t7
+add-t7 c = search needs
 
 insert-requires : tie.Need-insert-requires
 insert-requires c κs = search needs
@@ -59,4 +62,4 @@ returns-2 c =
 pub with-spec : {M : Type 1} → statement M
 with-spec =
     tie.close
-    (tie.spec has-letter-requires returns array-write-letters add-t11 insert-requires returns-2)
+    (tie.spec has-letter-requires returns mul-letters array-write-letters add-t7 insert-requires returns-2)
