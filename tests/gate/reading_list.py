@@ -15,7 +15,6 @@ from files import ROOT, contents, listed_crates
 CALLS = [
     ("crates/layout/src/layout.rt", "new"),
     ("crates/contraction/src/contraction.rt", "new"),
-    ("crates/questions/src/questions.rt", "first_no"),
     ("crates/plain/src/call.rt", "contract"),
     ("crates/tiled/src/call.rt", "run"),
     ("crates/tiled/src/call.rt", "state"),

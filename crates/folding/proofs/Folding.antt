@@ -16,7 +16,12 @@ use Rattle.limits.specs.Limits.{productLimit}
 use Rattle.groups.specs.Groups.{Label, size}
 use Rattle.groups.specs.Foldable.{Small, Foldable}
 use Rattle.folding.specs.Fold.{eqℤ, joins, join, joinFrom, joinAll, notOne, fold}
-use Rattle.folding.specs.FoldedWith.{addTo}
+
+-- a folded list with one label more: joined to the last one, or behind it
+abbrev pub addTo : List Label → Label → List Label
+addTo [] l = l ∷ []
+addTo (p ∷ []) l = cond (joins p l) (join p l ∷ []) (p ∷ l ∷ [])
+addTo (p ∷ q ∷ g) l = p ∷ addTo (q ∷ g) l
 
 -- two whole numbers are equal where both parts are
 pub eq-parts : (x y : ℤ) → (eqb (up x) (up y) && eqb (down x) (down y)) ≡ eqℤ x y

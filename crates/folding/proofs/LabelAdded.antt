@@ -1,6 +1,6 @@
 -- One label more in the code's list: nothing is folded yet, or the last label is split off: it joins the new one, or the new one goes behind it.
 -- Assumes nothing.
-use mathlib.Core.Path.{_≡_, refl, ap, sym, _∙_}
+use mathlib.Core.Path.{_≡_, ap, sym, _∙_}
 use mathlib.Core.Bool.{Bool, true, false, cond, _&&_}
 use mathlib.Core.List.{List, [], _∷_, _++_, append-assoc}
 use Prim.Native.Nat.{ℕ, _+_, _-_, _*_, _<_, _≤_}
@@ -19,8 +19,7 @@ use Rattle.groups.specs.Held.{asLabel, noDim, labelsIn}
 use Rattle.groups.specs.Foldable.{Small, Foldable}
 use Rattle.groups.proofs.LabelLists.{holding, labels-push, labels-last}
 use Rattle.folding.specs.Fold.{joins, join}
-use Rattle.folding.specs.FoldedWith.{addTo}
-use Rattle.folding.proofs.Folding.{add-last, last-fits}
+use Rattle.folding.proofs.Folding.{addTo, add-last, last-fits}
 
 -- a group that holds a label: those before the last, and the last
 abbrev front : Group → List Label

@@ -1,3 +1,2 @@
 pub mod Fold
 pub mod FoldCases
-pub mod FoldedWith

@@ -1,6 +1,6 @@
 ghost use mathlib.Core.Path.{_≡_};
-ghost use mathlib.Core.List.{[], _∷_, _++_, map};
-ghost use Prim.Native.Nat.{_+_, _<_, _≤_};
+ghost use mathlib.Core.List.{[], map};
+ghost use Prim.Native.Nat.{_≤_};
 ghost use lib.ListN.{length, drop};
 ghost use Rattle.limits.specs.Limits.{axesLimit};
 ghost use Rattle.labels.specs.Labels.{labels};
@@ -89,17 +89,6 @@ impl Group {
             dims: [empty; Limits::AXES],
             count: 0,
         }
-    }
-
-    // The group with one label more at its end.
-    pub fn with(self, l: Dim) -> Group
-        requires { ⌜ self .count < axesLimit ⌝ }
-        ensures { λ r. ⌜ (labelsIn r ≡ labelsIn self ++ asLabel l ∷ []) × (r .count ≡ self .count + 1) ⌝ }
-    {
-        let n = self.count;
-        let mut dims = self.dims;
-        dims[n] = l;
-        Group { dims, count: n + 1 }
     }
 
     // The product of the extents of the labels from a place on.

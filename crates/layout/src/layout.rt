@@ -24,7 +24,11 @@ pub struct Layout {
 fn letter_at(letters: &[u8], i: usize) -> u32
     ensures { λ r. ⌜ r ≡ getD (now (letters .entry)) i 0 ⌝ }
 {
-    if i < letters.len() { letters[i] as u32 } else { 0 }
+    if i < letters.len() {
+        letters[i] as u32
+    } else {
+        0
+    }
 }
 
 fn extent_at(extents: &[u32], i: usize) -> u32

@@ -54,4 +54,5 @@ module _ (p : Plan) (G : Cut) where
 
   -- whichever words of A and B were packed, D's words are those that their tile leaves
   pub record Multiplied (x : Tile) (alpha beta : ℕ) (work before after : List ℕ) : Type 0 where
-    pub tile : (a b : List ℕ) → PackedIn x a b work → after ≡ tileAt G (visit (planSetting p G alpha beta a b)) (x .batch) (x .column) (x .panel) (x .row) before
+    pub tile : (a b : List ℕ) → PackedIn x a b work
+        → after ≡ tileAt G (visit (planSetting p G alpha beta a b)) (x .batch) (x .column) (x .panel) (x .row) before

@@ -34,8 +34,7 @@ use Rattle.groups.specs.Groups.{Label, Group, inGroup, labelsWhere, group, outp
 use Rattle.groups.specs.Foldable.{Small, Foldable}
 use Rattle.folding.specs.Fold.{fold}
 use Rattle.plan.specs.Plan.{AllFoldable}
-use Rattle.folding.specs.FoldedWith.{addTo}
-use Rattle.folding.proofs.Folding.{Folding, fold-start, fold-end, fold-skip, fold-add}
+use Rattle.folding.proofs.Folding.{addTo, Folding, fold-start, fold-end, fold-skip, fold-add}
 
 module _ (t : Operand → Layout) (n : Operand → ℕ) (p : AllPassed t n) where
   extent-pos : (c : ℕ) → 0 < label (shape t) c .extent

@@ -1,27 +1,15 @@
 -- What the questions give that passed: each test by name.
 -- Assumes nothing.
-use mathlib.Core.Path.{_≡_, ap, _∙_}
-use mathlib.Core.Bool.{Bool, true, _&&_}
+use mathlib.Core.Path.{_≡_}
+use mathlib.Core.Bool.{true}
 use mathlib.Core.List.{_++_}
 use Prim.Native.Nat.{ℕ}
-use native.Mathlib.Omega.{arith}
-use lib.Dec.{T, leb}
-use borrow.Author.Tests.{leb-true}
-use Rattle.words.specs.Sums.{every}
-use Rattle.words.proofs.Sums.{and-split, every-append}
-use Rattle.limits.specs.Limits.{rankLimit, baseLimit, sliceLimit}
-use Rattle.layout.specs.declared.layout.Axis.{Axis}
 use Rattle.layout.specs.declared.layout.Layout.{Layout}
 use Rattle.layout.specs.Layout.{axes}
-use Rattle.layout.specs.Listed.{listed}
-use Rattle.validity.specs.Checked.{Checked}
-use Rattle.validity.specs.TensorQuestions.{rankFits, countsMatch, lettersValid, extentsValid, stridesValid, sizesValid}
+use Rattle.validity.specs.TensorQuestions.{rankFits, countsMatch, lettersValid, extentsValid, sizesValid}
 use Rattle.points.specs.LabelQuestions.{extentsAgree, pointsFit}
 use Rattle.entries.specs.EntryQuestions.{inside, apart}
-use Rattle.contraction.specs.declared.contraction.Contraction.{Contraction}
-use Rattle.contraction.specs.declared.contraction.Lengths.{Lengths}
-use Rattle.contraction.specs.declared.operands.Operands.{Operands}
-use Rattle.contraction.specs.Operands.{Operand, A, B, D, Shape, tensors, lengths, shape, together}
+use Rattle.contraction.specs.Operands.{Operand, D, shape, together}
 use Rattle.questions.specs.Questions.{refusal, tensorQuestions, lentTensors, labelQuestions, entryQuestions, layoutQuestions}
 use Rattle.questions.proofs.Refusal.{passed, refusal-both, of-each}
 

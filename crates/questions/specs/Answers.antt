@@ -1,5 +1,4 @@
--- What a tensor answers for itself, the answers of several joined, and that questions 1 to 9 passed. Inside contracts only: no outside call requires any
--- of it.
+-- What a tensor answers for itself, the answers of several joined, and what questions 1 to 9 leave. Inside contracts only.
 -- Assumes nothing.
 use Prim.Native.Nat.{ℕ, min}
 use mathlib.Core.Path.{_≡_}
@@ -28,10 +27,6 @@ pub record AnswerOf (xs : List Lent) (r : Answer) : Type 0 where
 pub record AskedOf (l : Layout) (n : ℕ) (r : Asked) : Type 0 where
   pub answer : AnswerOf (record { layout = l; words = n } ∷ []) (r .answer)
   pub lists : r .answer .number ≡ 0 → ListOf l (r .lists)
-
--- questions 1 to 9 passed
-pub record LayoutsPass (t : Operand → Layout) (n : Operand → ℕ) : Type 0 where
-  pub passed : refusal (layoutQuestions t n) ≡ 0
 
 -- the number that questions 1 to 9 refuse with, and where that is 0 the lists of the axes of each tensor and of all
 pub record ListedOf (c : Contraction) (n : Operand → ℕ) (r : Listed) : Type 0 where

@@ -19,7 +19,6 @@ use Rattle.contraction.specs.declared.contraction.Contraction.{Contraction}
 use Rattle.contraction.specs.Operands.{Operand, A, D, three, tensors, lengths}
 use Rattle.contraction.proofs.SliceLengths.{lengthsOf, slice-lengths}
 use Rattle.questions.specs.Questions.{refusal, layoutQuestions}
-use Rattle.questions.specs.Answers.{LayoutsPass}
 use Rattle.questions.proofs.Ready.{AllPassed}
 use Rattle.questions.proofs.Refusal.{refusal-both}
 use Rattle.groups.specs.declared.groups.Group.{Group}
@@ -37,7 +36,7 @@ use Rattle.tiles.specs.Progress.{State, stateAt}
 use Rattle.tiles.specs.Setting.{render}
 use Rattle.tiles.proofs.Closed.{Sound, render-shows}
 use Rattle.tile_blocks.specs.ContractionInTiles.{cutOf, setting}
-use Rattle.tile_blocks.specs.Planned.{GridOf, PlanFits, atBatch, placeD}
+use Rattle.tile_blocks.specs.Planned.{GridOf, atBatch, placeD}
 use Rattle.tile_blocks.specs.TilePlaces.{movedFrom}
 use Rattle.tile_questions.specs.TileQuestions.{sizeQuestion, roomQuestion, doneQuestion, acceptQuestions, Accepted, tileQuestions}
 use Rattle.tiled.specs.TileCall.{ran, tileRefused, TileCall, tileCallOf, ranCall, tileCall}

@@ -7,7 +7,6 @@ use mathlib.Core.Bool.{Bool, true, false, not, cond, _&&_, true≢false}
 use mathlib.Core.List.{List, [], _∷_, map}
 use Prim.Native.Nat.{ℕ, _+_, _-_, _<_, _≤_}
 use native.Mathlib.Omega.{arith}
-use borrow.Author.Needs.{needs}
 use borrow.Author.Tests.{eqb-true, eqb-false, ltb-true, not-true, not-false}
 use lib.Dec.{eqb, ltb}
 use lib.ListN.{length, getD, set, length-set}
@@ -20,8 +19,7 @@ use Rattle.groups.specs.Groups.{Label}
 use Rattle.groups.specs.Held.{asLabel, noDim, labelsIn}
 use Rattle.groups.proofs.LabelLists.{holding}
 use Rattle.folding.specs.Fold.{joins, join}
-use Rattle.folding.specs.FoldedWith.{addTo}
-use Rattle.folding.proofs.Folding.{Folding, fold-start, fold-skip, fold-add, fold-end}
+use Rattle.folding.proofs.Folding.{addTo, Folding, fold-start, fold-skip, fold-add, fold-end}
 use Rattle.folding.proofs.LabelAdded.{last, small-last, joined-fits, stored}
 use Rattle.folding.proofs.fold.folded.Statement.{statement}
 use Rattle.folding.proofs.fold.folded.Tie as tie

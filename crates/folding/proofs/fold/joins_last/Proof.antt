@@ -1,6 +1,5 @@
 -- `joins_last` meets its contract: with no label before it, a label continues none.
 -- Assumes nothing.
-use mathlib.Core.Path.{_∙_}
 use native.Mathlib.Omega.{arith}
 use borrow.Author.Tests.{lt-ltb}
 use Rattle.folding.proofs.fold.joins_last.Statement.{statement}

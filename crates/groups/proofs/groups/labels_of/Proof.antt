@@ -8,7 +8,6 @@ use lib.ListN.{length, getD, length-set}
 use Rattle.words.specs.Lists.{firstOf}
 use Rattle.words.proofs.Tabulate.{firstOf-suc}
 use Rattle.limits.specs.Limits.{axesLimit}
-use Rattle.labels.specs.Labels.{labels}
 use Rattle.labels.specs.LetterSets.{spelled}
 use Rattle.contraction.specs.TensorAxes.{shapeOf}
 use Rattle.groups.specs.Groups.{Label, label}

@@ -6,7 +6,7 @@ use borrow.Author.Needs.{needs}
 use Rattle.words.specs.Lists.{keep}
 use Rattle.limits.specs.Limits.{axesLimit}
 use Rattle.labels.specs.LetterSets.{has}
-use Rattle.contraction.specs.Operands.{Shape, tensors, shape}
+use Rattle.contraction.specs.Operands.{tensors, shape}
 use Rattle.groups.specs.declared.groups.Group.{Group as GroupCode}
 use Rattle.groups.specs.Groups.{Group, batch, row, column, depth, group}
 use Rattle.groups.specs.Held.{labelsIn}

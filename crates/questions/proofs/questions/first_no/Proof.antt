@@ -1,15 +1,14 @@
 -- `first_no` meets its contract: each tensor answers for itself, and the answers joined are those of the three; where none of questions 1 to 5 fails,
 -- the lists hold the axes, and the later questions are asked.
 -- Assumes nothing.
-use mathlib.Core.Path.{_≡_, sym, ap, _∙_}
+use mathlib.Core.Path.{sym, ap, _∙_}
 use mathlib.Core.List.{List, [], _∷_, _++_}
 use borrow.Author.Needs.{needs}
-use Rattle.layout.specs.declared.layout.Layout.{Layout}
 use Rattle.layout.specs.Listed.{listed}
 use Rattle.labels.specs.declared.letter_sets.Labelled.{Labelled}
 use Rattle.contraction.specs.Operands.{Operand, A, B, D, three, tensors, lengths}
 use Rattle.contraction.specs.TensorAxes.{ListedFrom, Ready}
-use Rattle.questions.specs.Questions.{Lent, refusal, tensorQuestions, lentTensors, labelQuestions, entryQuestions, layoutQuestions}
+use Rattle.questions.specs.Questions.{Lent, tensorQuestions, lentTensors, labelQuestions, entryQuestions, layoutQuestions}
 use Rattle.questions.specs.Answers.{AnswerOf}
 use Rattle.questions.proofs.Refusal.{refusal-next, refusal-first}
 use Rattle.questions.proofs.Joined.{joined-none}

@@ -1,6 +1,6 @@
 -- `Answer::and` meets its contract: the first question to fail of all is the sooner one, and a question passes of all where it passes of some and of the others.
 -- Assumes nothing.
-use mathlib.Core.Path.{_≡_, sym, _∙_}
+use mathlib.Core.Path.{sym}
 use Rattle.words.proofs.Sums.{every-and}
 use Rattle.layout.specs.Layout.{axes}
 use Rattle.entries.specs.EntryQuestions.{inside}

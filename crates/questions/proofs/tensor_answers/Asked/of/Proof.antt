@@ -12,7 +12,6 @@ use Rattle.words.proofs.Sums.{and-split}
 use Rattle.limits.specs.Limits.{rankLimit, baseLimit, sliceLimit}
 use Rattle.layout.specs.declared.layout.Layout.{Layout}
 use Rattle.layout.specs.declared.layout.Axis.{Axis}
-use Rattle.layout.specs.declared.axes.Axes.{Axes}
 use Rattle.layout.specs.Layout.{axes}
 use Rattle.layout.specs.Listed.{listed}
 use Rattle.validity.specs.TensorQuestions.{rankFits, lettersValid, extentsValid, stridesValid, sizesValid}
