@@ -28,7 +28,7 @@ pub record AskedOf (l : Layout) (n : ℕ) (r : Asked) : Type 0 where
   pub answer : AnswerOf (record { layout = l; words = n } ∷ []) (r .answer)
   pub lists : r .answer .number ≡ 0 → ListOf l (r .lists)
 
--- the number that questions 1 to 9 refuse with, and where that is 0 the lists of the axes of each tensor and of all
+-- the number that questions 1 to 9 refuse with, and where that is 0 the lists of the axes of each tensor, and the letters of all
 pub record ListedOf (c : Contraction) (n : Operand → ℕ) (r : Listed) : Type 0 where
   pub number : r .number ≡ refusal (layoutQuestions (tensors c) n)
   pub lists : r .number ≡ 0 → Ready c (r .lists)
