@@ -5,7 +5,8 @@ use mathlib.Core.List.{List}
 use Prim.Native.Nat.{ℕ, zero, suc, _<_}
 use native.Mathlib.Omega.{arith}
 use lib.ListN.{getD}
-use Rattle.contraction.specs.Operands.{Operand, A, B, D, tensorCount, operandNumber, operandAt, byTensor}
+use Rattle.contraction.specs.Operands.{Operand, A, B, D}
+use Rattle.contraction.specs.TensorPlaces.{tensorCount, operandNumber, operandAt, byTensor}
 
 pub number-below : (o : Operand) → operandNumber o < tensorCount
 number-below A = omega arith

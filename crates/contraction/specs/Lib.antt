@@ -1,3 +1,4 @@
 pub mod Operands
 pub mod OrderCases
 pub mod TensorAxes
+pub mod TensorPlaces

@@ -2,7 +2,6 @@
 -- Assumes nothing.
 use Prim.Native.Nat.{ℕ}
 use mathlib.Core.List.{List, [], _∷_, _++_}
-use lib.ListN.{getD}
 use Rattle.layout.specs.declared.layout.Axis.{Axis}
 use Rattle.layout.specs.declared.layout.Layout.{Layout}
 use Rattle.layout.specs.Layout.{axes}
@@ -15,24 +14,6 @@ pub data Operand : Type 0 where
 
 abbrev pub operands : List Operand
 operands = A ∷ B ∷ D ∷ []
-
--- how many tensors there are
-abbrev pub tensorCount : ℕ
-tensorCount = 3
-
--- a tensor's place in arrays by tensor
-abbrev pub operandNumber : Operand → ℕ
-operandNumber A = 0
-operandNumber B = 1
-operandNumber D = 2
-
--- the tensor at a place
-abbrev pub operandAt : ℕ → Operand
-operandAt n = getD operands n D
-
--- one number for each tensor, out of an array by tensor
-abbrev pub byTensor : List ℕ → Operand → ℕ
-byTensor xs o = getD xs (operandNumber o) 0
 
 -- one thing for each tensor
 abbrev pub three : {X : Type 0} → X → X → X → Operand → X

@@ -25,7 +25,9 @@ use Rattle.tiles.specs.TileWalk.{tileAt, visitTile, walkTiles}
 use Rattle.tiles.specs.Setting.{Setting, panelSum, doneSum, wordAt, render, closed, addPanel, tilesFrom}
 use Rattle.tile_blocks.specs.ContractionInTiles.{addressAt, entryOn, setting}
 use Rattle.tile_questions.specs.TileQuestions.{sizesFit, sizeQuestion, roomQuestion, doneQuestion, indexQuestion, acceptQuestions, Accepted, tileQuestions, stateQuestions}
-use Rattle.tiled.specs.TileCall.{ran, tileRefused, is, stateRefused, ranCall, tileCall, stateCall}
+use Rattle.answers.specs.TileAnswer.{ran, tileRefused}
+use Rattle.answers.specs.StateAnswer.{is, stateRefused}
+use Rattle.tiled.specs.TileCall.{ranCall, tileCall, stateCall}
 use Rattle.tiled.specs.Demand3.{Call, tiles, state, tiled, found, run}
 
 -- letters i, j and k are 105, 106 and 107

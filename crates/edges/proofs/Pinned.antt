@@ -19,7 +19,7 @@ use Rattle.go.proofs.GoCases.{go-cases}
 use Rattle.jobfile.proofs.JobFileCases.{job-file-cases}
 use Rattle.states.proofs.LetterCases.{letter-cases}
 use Rattle.flat.proofs.FlatLayoutCases.{flat-layout-cases}
-use Rattle.flat.proofs.StatusCases.{status-cases}
+use Rattle.answers.proofs.StatusCases.{status-cases}
 use Rattle.edges.specs.Pinned.{Pinned}
 use Rattle.edges.proofs.Starred.{edges-hold}
 use Rattle.edges.proofs.LabelKinds.{label-kind-cases}

@@ -19,7 +19,8 @@ use Rattle.tiles.specs.declared.grid.Sizes.{Sizes}
 use Rattle.tiles.specs.Cut.{total, tileNumber}
 use Rattle.tiles.specs.Progress.{old, part, final}
 use Rattle.tile_blocks.specs.ContractionInTiles.{cutOf, addressAt}
-use Rattle.tiled.specs.TileCall.{StateAnswer, is, stateCall}
+use Rattle.answers.specs.StateAnswer.{StateAnswer, is}
+use Rattle.tiled.specs.TileCall.{stateCall}
 
 -- four letters of extent 2 in 16 words
 abbrev fourLetters : List ℕ → Layout

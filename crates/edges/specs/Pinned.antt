@@ -21,7 +21,7 @@ use Rattle.go.specs.GoCases.{GoCases}
 use Rattle.jobfile.specs.JobFileCases.{JobFileCases}
 use Rattle.states.specs.LetterCases.{LetterCases}
 use Rattle.flat.specs.FlatLayoutCases.{FlatLayoutCases}
-use Rattle.flat.specs.StatusCases.{StatusCases}
+use Rattle.answers.specs.StatusCases.{StatusCases}
 use Rattle.edges.specs.Edges.{edges, Holds}
 use Rattle.edges.specs.LabelKinds.{LabelKindCases}
 use Rattle.edges.specs.JobCases.{JobCases}

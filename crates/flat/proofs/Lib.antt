@@ -1,2 +1,1 @@
 pub mod FlatLayoutCases
-pub mod StatusCases

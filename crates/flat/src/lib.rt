@@ -1,6 +1,3 @@
-// Parts of the calls for C and Rust: a layout of 28 words, the contraction of three, and each answer as numbers.
+// A layout as the calls for C and Rust take it, in 28 words, and the contraction of three.
 pub mod contraction_of;
 pub mod layout_words;
-pub mod plain_answer;
-pub mod state_answer;
-pub mod tile_answer;

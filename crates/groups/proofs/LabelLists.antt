@@ -12,7 +12,8 @@ use Rattle.layout.specs.Listed.{listed}
 use Rattle.labels.specs.Labels.{strideOf, extentOf}
 use Rattle.labels.proofs.Facts.{signed-stride}
 use Rattle.contraction.specs.declared.operands.Operands.{Operands}
-use Rattle.contraction.specs.Operands.{Operand, A, B, D, byTensor, together}
+use Rattle.contraction.specs.Operands.{Operand, A, B, D, together}
+use Rattle.contraction.specs.TensorPlaces.{byTensor}
 use Rattle.contraction.specs.TensorAxes.{axesIn, shapeOf, Gathered}
 use Rattle.groups.specs.declared.groups.Dim.{Dim}
 use Rattle.groups.specs.declared.groups.Group.{Group}

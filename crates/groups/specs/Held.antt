@@ -3,7 +3,7 @@
 use mathlib.Core.List.{List, [], map}
 use Rattle.words.specs.Lists.{firstOf}
 use Rattle.words.specs.Words.{signed}
-use Rattle.contraction.specs.Operands.{byTensor}
+use Rattle.contraction.specs.TensorPlaces.{byTensor}
 use Rattle.groups.specs.declared.groups.Dim.{Dim}
 use Rattle.groups.specs.declared.groups.Group.{Group}
 use Rattle.groups.specs.Groups.{Label}

@@ -13,8 +13,9 @@ use Rattle.contraction.specs.Operands.{three}
 use Rattle.tiles.specs.declared.grid.Sizes.{Sizes}
 use Rattle.tiles.specs.Cut.{total}
 use Rattle.tile_blocks.specs.ContractionInTiles.{cutOf}
-use Rattle.tiled.specs.declared.call.Outcome.{Outcome}
-use Rattle.tiled.specs.TileCall.{TileAnswer, tileAnswer, tileCallOf, tileCall}
+use Rattle.answers.specs.declared.tile_answer.Outcome.{Outcome}
+use Rattle.answers.specs.TileAnswer.{TileAnswer, tileAnswer, tileCallOf}
+use Rattle.tiled.specs.TileCall.{tileCall}
 use Rattle.states.specs.StateLetters.{stateLetters}
 use Rattle.tile_questions.specs.TileQuestions.{Accepted}
 use Rattle.states.proofs.Lettering.{letters-same, accepted-same, ran-accepted}

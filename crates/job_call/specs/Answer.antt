@@ -7,7 +7,7 @@ use Rattle.meaning.specs.Meaning.{Slices}
 use Rattle.tiles.specs.declared.grid.Sizes.{Sizes}
 use Rattle.tiles.specs.Cut.{total}
 use Rattle.tile_blocks.specs.ContractionInTiles.{cutOf}
-use Rattle.tiled.specs.TileCall.{TileCall, TileAnswer, ran, tileRefused}
+use Rattle.answers.specs.TileAnswer.{TileCall, TileAnswer, ran, tileRefused}
 use Rattle.states.specs.StateLetters.{stateLetters}
 use Rattle.report.specs.Text.{refusedText, reportText}
 

@@ -9,12 +9,12 @@ ghost use Rattle.tile_questions.specs.TileQuestions.{Accepted};
 ghost use Rattle.report.specs.Text.{reportText};
 ghost use Rattle.report.specs.Written.{Begins};
 ghost use Rattle.job_call.specs.TileText.{tileText};
+use answers::tile_answer::Outcome;
 use contraction::contraction::Contraction;
 use limits::limits::Limits;
 use report::report::put_refused;
 use report::report::put_report;
 use states::letters::letters_after;
-use tiled::call::Outcome;
 use tiled::call::run;
 use tiles::grid::Sizes;
 

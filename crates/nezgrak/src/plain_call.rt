@@ -1,10 +1,10 @@
 ghost use mathlib.Core.Path.{_≡_};
 ghost use Rattle.contraction.specs.Operands.{three};
 ghost use Rattle.plain.specs.PlainCall.{plainCall};
-ghost use Rattle.flat.specs.Flat.{returned, flat};
+ghost use Rattle.answers.specs.FlatPlain.{returned, flat};
 ghost use Rattle.flat.specs.FlatLayout.{flatContraction};
+use answers::plain_answer::status_of;
 use flat::contraction_of::contraction_of;
-use flat::plain_answer::status_of;
 use plain::call::contract;
 
 // The plain engine: D becomes alpha × the sum over the labels that D lacks of A × B + beta × D.

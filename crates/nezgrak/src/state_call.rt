@@ -1,12 +1,12 @@
 ghost use mathlib.Core.Path.{_≡_};
 ghost use Rattle.contraction.specs.Operands.{three};
 ghost use Rattle.tiled.specs.TileCall.{stateCall};
-ghost use Rattle.flat.specs.Flat.{sizesOf};
+ghost use Rattle.answers.specs.FlatTiles.{sizesOf};
 ghost use Rattle.flat.specs.FlatLayout.{flatContraction};
-ghost use Rattle.flat.specs.FlatState.{stateReturned, flatState};
+ghost use Rattle.answers.specs.FlatState.{stateReturned, flatState};
+use answers::state_answer::state_after;
+use answers::state_answer::status_of;
 use flat::contraction_of::contraction_of;
-use flat::state_answer::state_after;
-use flat::state_answer::status_of;
 use tiled::call::state as state_of;
 use tiles::grid::Sizes;
 

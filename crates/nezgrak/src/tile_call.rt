@@ -1,13 +1,12 @@
 ghost use mathlib.Core.Path.{_≡_};
 ghost use Rattle.contraction.specs.Operands.{three};
 ghost use Rattle.tiled.specs.TileCall.{tileCall};
-ghost use Rattle.flat.specs.Flat.{sizesOf};
 ghost use Rattle.flat.specs.FlatLayout.{flatContraction};
-ghost use Rattle.flat.specs.FlatTiles.{tilesReturned, flatTiles};
+ghost use Rattle.answers.specs.FlatTiles.{sizesOf, tilesReturned, flatTiles};
+use answers::tile_answer::complete_of;
+use answers::tile_answer::done_of;
+use answers::tile_answer::status_of;
 use flat::contraction_of::contraction_of;
-use flat::tile_answer::complete_of;
-use flat::tile_answer::done_of;
-use flat::tile_answer::status_of;
 use tiled::call::run;
 use tiles::grid::Sizes;
 

@@ -10,7 +10,8 @@ use Rattle.words.specs.Fronts.{front}
 use Rattle.words.proofs.Fronts.{getD-front, front-set}
 use Rattle.words.proofs.Modular.{word-word, word-add-left, word-add-right}
 use Rattle.words.proofs.Tabulate.{from, from-end, from-next}
-use Rattle.contraction.specs.Operands.{Operand, tensorCount, operandNumber}
+use Rattle.contraction.specs.Operands.{Operand}
+use Rattle.contraction.specs.TensorPlaces.{tensorCount, operandNumber}
 use Rattle.contraction.proofs.TensorPlaces.{number-below}
 use Rattle.groups.specs.declared.groups.Dim.{Dim}
 use Rattle.groups.specs.Groups.{Label, size}

@@ -3,7 +3,8 @@
 use Prim.Native.Nat.{ℕ}
 use mathlib.Core.Path.{_≡_}
 use Rattle.words.specs.Words.{word}
-use Rattle.contraction.specs.Operands.{Operand, byTensor}
+use Rattle.contraction.specs.Operands.{Operand}
+use Rattle.contraction.specs.TensorPlaces.{byTensor}
 use Rattle.offsets.specs.declared.offsets.Offsets.{Offsets}
 
 -- the word at a tensor's place

@@ -9,7 +9,8 @@ use Rattle.contraction.proofs.SliceLengths.{lengthsOf, slice-lengths}
 use Rattle.questions.specs.Questions.{refusal, layoutQuestions}
 use Rattle.questions.proofs.Refusal.{answers-no, answers-yes}
 use Rattle.meaning.specs.Meaning.{Slices, firstNo, result}
-use Rattle.plain.specs.PlainCall.{plainDone, plainRefused, plainCallOf, plainCall}
+use Rattle.answers.specs.PlainAnswer.{plainDone, plainRefused, plainCallOf}
+use Rattle.plain.specs.PlainCall.{plainCall}
 
 pub asked : (c : Contraction) (a b d : List ℕ) {k : ℕ} → k ≡ refusal (layoutQuestions (tensors c) (lengths (lengthsOf a b d))) → k ≡ firstNo c (three a b d)
 asked c a b d e = e ∙ ap (λ (n : Operand → ℕ). refusal (layoutQuestions (tensors c) n)) (slice-lengths a b d)

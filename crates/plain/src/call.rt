@@ -1,18 +1,14 @@
 ghost use mathlib.Core.Path.{_≡_};
 ghost use Rattle.contraction.specs.Operands.{three};
-ghost use Rattle.plain.specs.PlainCall.{plainAnswer, plainCallOf, plainCall};
+ghost use Rattle.answers.specs.PlainAnswer.{plainAnswer, plainCallOf};
+ghost use Rattle.plain.specs.PlainCall.{plainCall};
+use answers::plain_answer::Outcome;
 use contraction::contraction::Contraction;
 use contraction::contraction::Lengths;
 use direct::fill::fill;
 use direct::walk::walk_of;
 use plan::plan::output_plan_of;
 use questions::questions::first_no;
-
-// What a call answers: done, or the number of the question that refused.
-pub enum Outcome {
-    Done,
-    Refused(u32),
-}
 
 // Questions 1 to 9; where all pass, D's words become the contraction's. A refusal changes no word.
 pub fn contract(c: Contraction, a: &[u32], b: &[u32], d: &mut [u32]) -> Outcome

@@ -39,7 +39,8 @@ use Rattle.tile_blocks.specs.ContractionInTiles.{cutOf, setting}
 use Rattle.tile_blocks.specs.Planned.{GridOf, atBatch, placeD}
 use Rattle.tile_blocks.specs.TilePlaces.{movedFrom}
 use Rattle.tile_questions.specs.TileQuestions.{sizeQuestion, roomQuestion, doneQuestion, acceptQuestions, Accepted, tileQuestions}
-use Rattle.tiled.specs.TileCall.{ran, tileRefused, TileCall, tileCallOf, ranCall, tileCall}
+use Rattle.answers.specs.TileAnswer.{ran, tileRefused, TileCall, tileCallOf}
+use Rattle.tiled.specs.TileCall.{ranCall, tileCall}
 use Rattle.accept.proofs.AcceptQuestions.{same-questions, numbered, accepted}
 use Rattle.accept.proofs.Accepted.{grid-cut}
 use Rattle.accept.proofs.Reaches.{reaches-d, clear}

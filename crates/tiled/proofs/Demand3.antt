@@ -21,7 +21,8 @@ use Rattle.tiles.proofs.States.{old-none, final-all}
 use Rattle.tiles.proofs.Closed.{Sound, length-closed, closed-shows, walk-closed, closed-zero}
 use Rattle.tile_blocks.specs.ContractionInTiles.{cutOf, addressAt, setting}
 use Rattle.tile_questions.specs.TileQuestions.{workFits, acceptQuestions}
-use Rattle.tiled.specs.TileCall.{doneIn, ran, tileRefused, TileCall, tileCallOf, ranCall, tileCall, stateCall}
+use Rattle.answers.specs.TileAnswer.{doneIn, ran, tileRefused, TileCall, tileCallOf}
+use Rattle.tiled.specs.TileCall.{ranCall, tileCall, stateCall}
 use Rattle.tiled.specs.Demand3.{Call, tiles, state, Answer, tiled, found, After, run, next, answer, count, answers, Demand3, EveryListMeetsDemand3}
 use Rattle.tiled.proofs.Soundness.{setting-same, sound}
 use Rattle.accept.proofs.AcceptQuestions.{same-questions, accepted}

@@ -20,7 +20,9 @@ use Rattle.tiles.specs.Progress.{stateAt}
 use Rattle.tile_blocks.specs.ContractionInTiles.{cutOf}
 use Rattle.tile_questions.specs.TileQuestions.{roomQuestion, doneQuestion, indexQuestion, acceptQuestions, tileQuestions, stateQuestions}
 use Rattle.accept.proofs.AcceptQuestions.{numbered}
-use Rattle.tiled.specs.TileCall.{TileCall, tileRefused, is, stateRefused, tileCallOf, ranCall, tileCall, stateCall}
+use Rattle.answers.specs.TileAnswer.{TileCall, tileRefused, tileCallOf}
+use Rattle.answers.specs.StateAnswer.{is, stateRefused}
+use Rattle.tiled.specs.TileCall.{ranCall, tileCall, stateCall}
 
 module _ (c : Contraction) (z : Sizes) (w : Slices) where
   -- a call that asks 1 to 10 and then the rest: x where all pass, else f of the number that refuses

@@ -17,7 +17,9 @@ use Rattle.tiles.specs.Progress.{old, final, done, stateAt}
 use Rattle.tiles.specs.Setting.{wordAt}
 use Rattle.tile_blocks.specs.ContractionInTiles.{cutOf, addressAt, setting}
 use Rattle.tile_questions.specs.TileQuestions.{workFits, isIndex, Accepted}
-use Rattle.tiled.specs.TileCall.{TileAnswer, ran, tileRefused, doneIn, StateAnswer, is, stateRefused, tileCall, stateCall}
+use Rattle.answers.specs.TileAnswer.{TileAnswer, ran, tileRefused, doneIn}
+use Rattle.answers.specs.StateAnswer.{StateAnswer, is, stateRefused}
+use Rattle.tiled.specs.TileCall.{tileCall, stateCall}
 
 pub data Call : Type 0 where
   tiles : (budget : ℕ) (work : List ℕ) → Call  -- a tile call, with its own budget and work slice

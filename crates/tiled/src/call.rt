@@ -1,40 +1,19 @@
 ghost use mathlib.Core.Path.{_≡_};
 ghost use Prim.Native.Nat.{min};
 ghost use Rattle.contraction.specs.Operands.{three};
-ghost use Rattle.tiles.specs.Grid.{stateOf};
-ghost use Rattle.tiled.specs.TileCall.{is, tileAnswer, stateAnswer, tileCallOf, tileCall, stateCall};
+ghost use Rattle.answers.specs.StateAnswer.{stateAnswer};
+ghost use Rattle.answers.specs.TileAnswer.{tileAnswer, tileCallOf};
+ghost use Rattle.tiled.specs.TileCall.{tileCall, stateCall};
 use accept::accept::Accept;
+use answers::state_answer::Found;
+use answers::state_answer::answer_of;
+use answers::tile_answer::Outcome;
 use contraction::contraction::Contraction;
 use contraction::contraction::Lengths;
 use tile_questions::refusals::state_refusal;
 use tile_questions::refusals::tile_refusal;
 use tiles::grid::Sizes;
-use tiles::grid::State;
 use tiling::run_tiles::run_tiles;
-
-// What a tile call answers: the new count of tiles done and whether that is the total, or the number of the question that refused and the count as given.
-pub enum Outcome {
-    Ran { done: u64, complete: bool },
-    Refused { number: u32, done: u64 },
-}
-
-// What a state question answers: no panel done, some, all, or the number of the question that refused.
-pub enum Found {
-    Old,
-    Part,
-    Final,
-    Refused(u32),
-}
-
-fn answer_of(s: State) -> Found
-    ensures { λ r. ⌜ stateAnswer r ≡ is (stateOf s) ⌝ }
-{
-    match s {
-        State::Old => Found::Old,
-        State::Part => Found::Part,
-        State::Final => Found::Final,
-    }
-}
 
 // The smaller of two counts.
 fn smaller(a: u64, b: u64) -> u64

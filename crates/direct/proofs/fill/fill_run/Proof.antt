@@ -12,7 +12,8 @@ use lib.ListN.{length, getD, set, length-set}
 use Rattle.words.specs.Words.{word}
 use Rattle.words.specs.Loops.{each, put}
 use Rattle.words.proofs.Modular.{word-add-left, word-mul-right}
-use Rattle.contraction.specs.Operands.{Operand, D, operandNumber}
+use Rattle.contraction.specs.Operands.{Operand, D}
+use Rattle.contraction.specs.TensorPlaces.{operandNumber}
 use Rattle.groups.specs.Groups.{Label}
 use Rattle.groups.specs.Held.{labelsIn}
 use Rattle.offsets.specs.declared.offsets.Offsets.{Offsets}

@@ -10,7 +10,8 @@ use native.Mathlib.Omega.{arith}
 use lib.ListN.{drop}
 use lib.Seq.{drop-cons}
 use Rattle.words.specs.Sums.{every}
-use Rattle.contraction.specs.Operands.{Operand, D, operands, tensorCount, operandAt}
+use Rattle.contraction.specs.Operands.{Operand, D, operands}
+use Rattle.contraction.specs.TensorPlaces.{tensorCount, operandAt}
 use Rattle.contraction.proofs.TensorPlaces.{at-place}
 use Rattle.groups.specs.Groups.{Label}
 use Rattle.groups.specs.Held.{asLabel}

@@ -6,9 +6,10 @@ use Prim.Native.Nat.{ℕ}
 use borrow.Author.Needs.{needs}
 use Rattle.contraction.specs.declared.contraction.Contraction.{Contraction}
 use Rattle.meaning.specs.Meaning.{Slices}
-use Rattle.plain.specs.declared.call.Outcome.{Outcome}
-use Rattle.plain.specs.PlainCall.{plainAnswer, plainCallOf, plainCall}
-use Rattle.flat.specs.Flat.{plainStatus, returned, flat}
+use Rattle.answers.specs.declared.plain_answer.Outcome.{Outcome}
+use Rattle.answers.specs.PlainAnswer.{plainAnswer, plainCallOf}
+use Rattle.plain.specs.PlainCall.{plainCall}
+use Rattle.answers.specs.FlatPlain.{plainStatus, returned, flat}
 use Rattle.nezgrak.proofs.plain_call.nezgrak_contract.Statement.{statement}
 use Rattle.nezgrak.proofs.plain_call.nezgrak_contract.Tie as tie
 

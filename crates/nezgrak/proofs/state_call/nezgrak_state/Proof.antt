@@ -6,9 +6,10 @@ use borrow.Author.Needs.{needs}
 use Rattle.contraction.specs.declared.contraction.Contraction.{Contraction}
 use Rattle.meaning.specs.Meaning.{Slices}
 use Rattle.tiles.specs.declared.grid.Sizes.{Sizes}
-use Rattle.tiled.specs.declared.call.Found.{Found}
-use Rattle.tiled.specs.TileCall.{stateAnswer, stateCall}
-use Rattle.flat.specs.FlatState.{stateStatus, stateAfter, stateReturned, flatState}
+use Rattle.answers.specs.declared.state_answer.Found.{Found}
+use Rattle.answers.specs.StateAnswer.{stateAnswer}
+use Rattle.tiled.specs.TileCall.{stateCall}
+use Rattle.answers.specs.FlatState.{stateStatus, stateAfter, stateReturned, flatState}
 use Rattle.nezgrak.proofs.state_call.nezgrak_state.Statement.{statement}
 use Rattle.nezgrak.proofs.state_call.nezgrak_state.Tie as tie
 

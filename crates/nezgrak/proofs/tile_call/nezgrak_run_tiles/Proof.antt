@@ -7,9 +7,10 @@ use borrow.Author.Needs.{needs}
 use Rattle.contraction.specs.declared.contraction.Contraction.{Contraction}
 use Rattle.meaning.specs.Meaning.{Slices}
 use Rattle.tiles.specs.declared.grid.Sizes.{Sizes}
-use Rattle.tiled.specs.declared.call.Outcome.{Outcome}
-use Rattle.tiled.specs.TileCall.{tileAnswer, doneIn, tileCallOf, tileCall}
-use Rattle.flat.specs.FlatTiles.{tileStatus, saidComplete, tilesReturned, flatTiles}
+use Rattle.answers.specs.declared.tile_answer.Outcome.{Outcome}
+use Rattle.answers.specs.TileAnswer.{tileAnswer, doneIn, tileCallOf}
+use Rattle.tiled.specs.TileCall.{tileCall}
+use Rattle.answers.specs.FlatTiles.{tileStatus, saidComplete, tilesReturned, flatTiles}
 use Rattle.nezgrak.proofs.tile_call.nezgrak_run_tiles.Statement.{statement}
 use Rattle.nezgrak.proofs.tile_call.nezgrak_run_tiles.Tie as tie
 

@@ -4,7 +4,7 @@
 use Prim.Native.Nat.{_-_, _≤_}
 use native.Mathlib.Omega.{arith}
 use lib.ListN.{getD}
-use Rattle.contraction.specs.Operands.{operandAt}
+use Rattle.contraction.specs.TensorPlaces.{operandAt}
 use Rattle.contraction.proofs.TensorPlaces.{at-place}
 use Rattle.groups.specs.Held.{noDim, labelsIn}
 use Rattle.offsets.proofs.OffsetWords.{Partway, labelsFrom, offsets-start, extent-at, turn, offsets-end}

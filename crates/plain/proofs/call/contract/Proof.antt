@@ -26,7 +26,7 @@ use Rattle.plan.proofs.GroupsFoldable.{all-foldable, group-foldable, outputs-fo
 use Rattle.direct.specs.declared.walk.Walk.{Walk}
 use Rattle.direct.specs.Walk.{places, over, filled, Walks, Clear}
 use Rattle.direct.proofs.DirectResult.{clear, filled-result}
-use Rattle.plain.specs.PlainCall.{plainDone, plainCallOf}
+use Rattle.answers.specs.PlainAnswer.{plainDone, plainCallOf}
 use Rattle.plain.proofs.PlainAnswered.{asked, call-refused, call-done}
 use Rattle.plain.proofs.call.contract.Statement.{statement}
 use Rattle.plain.proofs.call.contract.Tie as tie

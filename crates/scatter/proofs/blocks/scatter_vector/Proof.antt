@@ -12,7 +12,8 @@ use Rattle.words.specs.Words.{word, wordOf}
 use Rattle.words.specs.Fronts.{front}
 use Rattle.words.proofs.Modular.{word-add-left, word-add-right}
 use Rattle.words.proofs.Fronts.{length-front, front-none, front-set}
-use Rattle.contraction.specs.Operands.{Operand, tensorCount, operandAt}
+use Rattle.contraction.specs.Operands.{Operand}
+use Rattle.contraction.specs.TensorPlaces.{tensorCount, operandAt}
 use Rattle.contraction.proofs.TensorPlaces.{at-place}
 use Rattle.groups.specs.Groups.{Label, size}
 use Rattle.groups.specs.Held.{labelsIn}

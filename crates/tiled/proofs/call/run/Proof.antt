@@ -29,7 +29,8 @@ use Rattle.tile_blocks.specs.ContractionInTiles.{cutOf, setting}
 use Rattle.tile_blocks.specs.Planned.{GridOf, Clear, readIn, planSetting}
 use Rattle.tile_questions.specs.TileQuestions.{sizeQuestion, roomQuestion, doneQuestion}
 use Rattle.tiling.specs.Work.{packedLast, workAfter}
-use Rattle.tiled.specs.TileCall.{ran, tileRefused, tileCallOf, ranCall, tileCall}
+use Rattle.answers.specs.TileAnswer.{ran, tileRefused, tileCallOf}
+use Rattle.tiled.specs.TileCall.{ranCall, tileCall}
 use Rattle.accept.proofs.AcceptQuestions.{asked, accepted}
 use Rattle.accept.proofs.Accepted.{none-refused, grid-cut}
 use Rattle.accept.proofs.Reaches.{clear}

@@ -24,7 +24,8 @@ use Rattle.tiles.specs.Progress.{State, stateAt}
 use Rattle.tile_blocks.specs.ContractionInTiles.{cutOf}
 use Rattle.tile_blocks.specs.Planned.{GridOf}
 use Rattle.tile_questions.specs.TileQuestions.{sizeQuestion, doneQuestion, indexQuestion}
-use Rattle.tiled.specs.TileCall.{is, stateRefused, stateCall}
+use Rattle.answers.specs.StateAnswer.{is, stateRefused}
+use Rattle.tiled.specs.TileCall.{stateCall}
 use Rattle.accept.proofs.AcceptQuestions.{asked}
 use Rattle.accept.proofs.Accepted.{none-refused, grid-cut}
 use Rattle.tiled.proofs.TileAnswered.{state-early, state-late, state-found}

@@ -12,7 +12,7 @@ use lib.IntN.{pos, negsuc}
 use lib.ListN.{getD, drop}
 use Rattle.words.specs.Words.{word, wordOf, signed}
 use Rattle.words.specs.Lists.{firstOf}
-use Rattle.contraction.specs.Operands.{byTensor}
+use Rattle.contraction.specs.TensorPlaces.{byTensor}
 use Rattle.groups.specs.declared.groups.Dim.{Dim}
 use Rattle.groups.specs.declared.groups.Group.{Group}
 use Rattle.groups.specs.Groups.{Label}

@@ -7,7 +7,7 @@ use lib.ListN.{getD}
 use Rattle.words.specs.Words.{word, wordOf, signed}
 use Rattle.words.specs.Fronts.{front}
 use Rattle.words.proofs.Fronts.{front-none}
-use Rattle.contraction.specs.Operands.{tensorCount}
+use Rattle.contraction.specs.TensorPlaces.{tensorCount}
 use Rattle.groups.specs.declared.groups.Dim.{Dim}
 use Rattle.offsets.proofs.OffsetWords.{next-place, by-places}
 use Rattle.offsets.proofs.offsets.Offsets.along.Statement.{statement}

@@ -7,7 +7,7 @@ use lib.ListN.{getD}
 use Rattle.words.specs.Words.{word}
 use Rattle.words.specs.Fronts.{front}
 use Rattle.words.proofs.Fronts.{front-none}
-use Rattle.contraction.specs.Operands.{tensorCount}
+use Rattle.contraction.specs.TensorPlaces.{tensorCount}
 use Rattle.offsets.specs.declared.offsets.Offsets.{Offsets}
 use Rattle.offsets.proofs.OffsetWords.{next-place, by-places}
 use Rattle.offsets.proofs.offsets.Offsets.plus.Statement.{statement}

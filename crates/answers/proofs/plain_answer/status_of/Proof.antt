@@ -1,8 +1,8 @@
 -- `status_of` meets its contract: each case of the outcome answers its number.
 -- Assumes nothing.
 use borrow.Author.Needs.{needs}
-use Rattle.flat.proofs.plain_answer.status_of.Statement.{statement}
-use Rattle.flat.proofs.plain_answer.status_of.Tie as tie
+use Rattle.answers.proofs.plain_answer.status_of.Statement.{statement}
+use Rattle.answers.proofs.plain_answer.status_of.Tie as tie
 
 enum-told : tie.Need-enum-told
 enum-told c = search needs

@@ -4,11 +4,12 @@ use mathlib.Core.Path.{_≡_}
 use mathlib.Core.Bool.{true, false}
 use mathlib.Core.List.{[], _∷_}
 use Rattle.tiles.specs.Progress.{old, part, final}
-use Rattle.plain.specs.PlainCall.{plainDone, plainRefused}
-use Rattle.tiled.specs.TileCall.{ran, tileRefused, is, stateRefused}
-use Rattle.flat.specs.Flat.{plainStatus}
-use Rattle.flat.specs.FlatTiles.{tileStatus, saidComplete}
-use Rattle.flat.specs.FlatState.{stateStatus, stateAfter}
+use Rattle.answers.specs.PlainAnswer.{plainDone, plainRefused}
+use Rattle.answers.specs.TileAnswer.{ran, tileRefused}
+use Rattle.answers.specs.StateAnswer.{is, stateRefused}
+use Rattle.answers.specs.FlatPlain.{plainStatus}
+use Rattle.answers.specs.FlatTiles.{tileStatus, saidComplete}
+use Rattle.answers.specs.FlatState.{stateStatus, stateAfter}
 
 pub record StatusCases : Type 0 where
   -- 0 where nothing refuses, else the question's number

@@ -1,8 +1,8 @@
 -- `state_after` meets its contract: each case of the answer gives its number, and a refusal the one from before.
 -- Assumes nothing.
 use borrow.Author.Needs.{needs}
-use Rattle.flat.proofs.state_answer.state_after.Statement.{statement}
-use Rattle.flat.proofs.state_answer.state_after.Tie as tie
+use Rattle.answers.proofs.state_answer.state_after.Statement.{statement}
+use Rattle.answers.proofs.state_answer.state_after.Tie as tie
 
 enum-told : tie.Need-enum-told
 enum-told c = search needs

@@ -1,9 +1,13 @@
--- What the flat tile call gives.
+-- What the flat tile call gives; the sizes of a tile as flat parameters.
 -- Assumes nothing.
 use Prim.Native.Nat.{ℕ}
 use mathlib.Core.Bool.{cond}
 use mathlib.Core.List.{List}
-use Rattle.tiled.specs.TileCall.{TileAnswer, ran, tileRefused, doneIn, TileCall}
+use Rattle.tiles.specs.declared.grid.Sizes.{Sizes}
+use Rattle.answers.specs.TileAnswer.{TileAnswer, ran, tileRefused, doneIn, TileCall}
+
+abbrev pub sizesOf : ℕ → ℕ → ℕ → Sizes
+sizesOf rows cols depth = record { rows = rows; cols = cols; depth = depth }
 
 -- the number that is returned: 0 where the call ran
 abbrev pub tileStatus : TileAnswer → ℕ

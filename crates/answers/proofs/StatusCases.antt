@@ -1,7 +1,7 @@
 -- The numbers that the flat calls return and set, by computation.
 -- Assumes nothing.
 use mathlib.Core.Path.{refl}
-use Rattle.flat.specs.StatusCases.{StatusCases}
+use Rattle.answers.specs.StatusCases.{StatusCases}
 
 pub status-cases : StatusCases
 status-cases =

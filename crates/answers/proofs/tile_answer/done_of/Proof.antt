@@ -1,8 +1,8 @@
 -- `done_of` meets its contract: either case of the outcome has the count.
 -- Assumes nothing.
 use borrow.Author.Needs.{needs}
-use Rattle.flat.proofs.tile_answer.done_of.Statement.{statement}
-use Rattle.flat.proofs.tile_answer.done_of.Tie as tie
+use Rattle.answers.proofs.tile_answer.done_of.Statement.{statement}
+use Rattle.answers.proofs.tile_answer.done_of.Tie as tie
 
 enum-known-outcome : tie.Need-enum-known-outcome
 enum-known-outcome c = search needs

@@ -4,9 +4,9 @@ use mathlib.Core.Path.{_≡_, sym, ap}
 use borrow.Author.Needs.{needs}
 use Rattle.tiles.specs.declared.grid.State.{State}
 use Rattle.tiles.specs.Grid.{stateOf}
-use Rattle.tiled.specs.TileCall.{is}
-use Rattle.tiled.proofs.call.answer_of.Statement.{statement}
-use Rattle.tiled.proofs.call.answer_of.Tie as tie
+use Rattle.answers.specs.StateAnswer.{is}
+use Rattle.answers.proofs.state_answer.answer_of.Statement.{statement}
+use Rattle.answers.proofs.state_answer.answer_of.Tie as tie
 
 answered : {s x : State} → s ≡ x → is (stateOf x) ≡ is (stateOf s)
 answered e = ap (λ (y : State). is (stateOf y)) (sym e)

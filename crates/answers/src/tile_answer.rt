@@ -1,7 +1,12 @@
 ghost use mathlib.Core.Path.{_≡_};
-ghost use Rattle.tiled.specs.TileCall.{tileAnswer, doneIn};
-ghost use Rattle.flat.specs.FlatTiles.{tileStatus, saidComplete};
-use tiled::call::Outcome;
+ghost use Rattle.answers.specs.TileAnswer.{tileAnswer, doneIn};
+ghost use Rattle.answers.specs.FlatTiles.{tileStatus, saidComplete};
+
+// What a tile call answers: the new count of tiles done and whether that is the total, or the number of the question that refused and the count as given.
+pub enum Outcome {
+    Ran { done: u64, complete: bool },
+    Refused { number: u32, done: u64 },
+}
 
 // An outcome as a number: 0 where the call ran.
 pub fn status_of(outcome: Outcome) -> u32

@@ -2,7 +2,7 @@
 -- Assumes nothing.
 use Prim.Native.Nat.{ℕ}
 use Rattle.tiles.specs.Progress.{old, part, final}
-use Rattle.tiled.specs.TileCall.{StateAnswer, is, stateRefused}
+use Rattle.answers.specs.StateAnswer.{StateAnswer, is, stateRefused}
 
 -- the number that is returned: 0 where there is a state
 abbrev pub stateStatus : StateAnswer → ℕ

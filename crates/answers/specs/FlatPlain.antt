@@ -1,9 +1,8 @@
--- What the flat plain call gives; the sizes of a tile as flat parameters.
+-- What the flat plain call gives.
 -- Assumes nothing.
 use Prim.Native.Nat.{ℕ}
 use mathlib.Core.List.{List}
-use Rattle.plain.specs.PlainCall.{PlainAnswer, plainDone, plainRefused, PlainCall}
-use Rattle.tiles.specs.declared.grid.Sizes.{Sizes}
+use Rattle.answers.specs.PlainAnswer.{PlainAnswer, plainDone, plainRefused, PlainCall}
 
 -- an answer as a number: 0 where the call is done, else that of the question that refused
 abbrev pub plainStatus : PlainAnswer → ℕ
@@ -20,6 +19,3 @@ returned status words = record { status = status; words = words }
 
 abbrev pub flat : PlainCall → Flat
 flat k = returned (plainStatus (k .answer)) (k .words)
-
-abbrev pub sizesOf : ℕ → ℕ → ℕ → Sizes
-sizesOf rows cols depth = record { rows = rows; cols = cols; depth = depth }

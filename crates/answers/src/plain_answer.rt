@@ -1,7 +1,12 @@
 ghost use mathlib.Core.Path.{_≡_};
-ghost use Rattle.plain.specs.PlainCall.{plainAnswer};
-ghost use Rattle.flat.specs.Flat.{plainStatus};
-use plain::call::Outcome;
+ghost use Rattle.answers.specs.PlainAnswer.{plainAnswer};
+ghost use Rattle.answers.specs.FlatPlain.{plainStatus};
+
+// What a call answers: done, or the number of the question that refused.
+pub enum Outcome {
+    Done,
+    Refused(u32),
+}
 
 // An outcome as a number: 0 where the call is done.
 pub fn status_of(outcome: Outcome) -> u32

@@ -1,8 +1,8 @@
 -- `complete_of` meets its contract: a call that ran says whether it is complete, a refused one 0.
 -- Assumes nothing.
 use borrow.Author.Needs.{needs}
-use Rattle.flat.proofs.tile_answer.complete_of.Statement.{statement}
-use Rattle.flat.proofs.tile_answer.complete_of.Tie as tie
+use Rattle.answers.proofs.tile_answer.complete_of.Statement.{statement}
+use Rattle.answers.proofs.tile_answer.complete_of.Tie as tie
 
 enum-known-outcome : tie.Need-enum-known-outcome
 enum-known-outcome c = search needs
