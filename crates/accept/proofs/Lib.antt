@@ -1,3 +1,4 @@
 pub mod AcceptQuestions
 pub mod Accepted
 pub mod Reaches
+pub mod Soundness

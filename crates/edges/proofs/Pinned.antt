@@ -17,7 +17,7 @@ use Rattle.marks.proofs.MarkCases.{mark-cases}
 use Rattle.records.proofs.RecordCases.{record-cases}
 use Rattle.go.proofs.GoCases.{go-cases}
 use Rattle.jobfile.proofs.JobFileCases.{job-file-cases}
-use Rattle.states.proofs.LetterCases.{letter-cases}
+use Rattle.letters.proofs.LetterCases.{letter-cases}
 use Rattle.flat.proofs.FlatLayoutCases.{flat-layout-cases}
 use Rattle.answers.proofs.StatusCases.{status-cases}
 use Rattle.edges.specs.Pinned.{Pinned}

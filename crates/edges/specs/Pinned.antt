@@ -19,7 +19,7 @@ use Rattle.marks.specs.MarkCases.{MarkCases}
 use Rattle.records.specs.RecordCases.{RecordCases}
 use Rattle.go.specs.GoCases.{GoCases}
 use Rattle.jobfile.specs.JobFileCases.{JobFileCases}
-use Rattle.states.specs.LetterCases.{LetterCases}
+use Rattle.letters.specs.LetterCases.{LetterCases}
 use Rattle.flat.specs.FlatLayoutCases.{FlatLayoutCases}
 use Rattle.answers.specs.StatusCases.{StatusCases}
 use Rattle.edges.specs.Edges.{edges, Holds}

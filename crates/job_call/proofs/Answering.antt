@@ -18,7 +18,8 @@ use Rattle.answers.specs.TileAnswer.{TileAnswer, tileAnswer, tileCallOf}
 use Rattle.tiled.specs.TileCall.{tileCall}
 use Rattle.states.specs.StateLetters.{stateLetters}
 use Rattle.tile_questions.specs.TileQuestions.{Accepted}
-use Rattle.states.proofs.Lettering.{letters-same, accepted-same, ran-accepted}
+use Rattle.tiled.proofs.TileAnswered.{ran-accepted}
+use Rattle.states.proofs.Lettering.{letters-same, accepted-same}
 use Rattle.report.specs.Text.{refusedText, reportText}
 use Rattle.job_call.specs.Answer.{answerText, callText}
 use Rattle.job_call.specs.TileText.{tileText}

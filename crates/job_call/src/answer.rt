@@ -14,7 +14,7 @@ use contraction::contraction::Contraction;
 use limits::limits::Limits;
 use report::report::put_refused;
 use report::report::put_report;
-use states::letters::letters_after;
+use states::after::letters_after;
 use tiled::call::run;
 use tiles::grid::Sizes;
 

@@ -1,2 +1,1 @@
-pub mod LetterCases
 pub mod Lettering

@@ -1,3 +1,1 @@
-pub mod LetterCases
-pub mod Placed
 pub mod StateLetters

@@ -11,20 +11,11 @@ use Rattle.contraction.specs.Operands.{D}
 use Rattle.meaning.specs.Meaning.{Slices}
 use Rattle.tiles.specs.declared.grid.Sizes.{Sizes}
 use Rattle.tiles.specs.Cut.{InSizes}
-use Rattle.tiles.specs.Progress.{State, old, part, final, stateAt}
+use Rattle.tiles.specs.Progress.{stateAt}
 use Rattle.tiles.specs.Setting.{render}
 use Rattle.tile_blocks.specs.ContractionInTiles.{cutOf, addressAt, setting}
 use Rattle.tile_questions.specs.TileQuestions.{Accepted}
-
--- the letter of a state: `o`, `p`, `f`
-abbrev pub letterOf : State → ℕ
-letterOf old = 111
-letterOf part = 112
-letterOf final = 102
-
--- `-`, for a word outside the layout
-abbrev pub outside : ℕ
-outside = 45
+use Rattle.letters.specs.Letters.{letterOf, outside}
 
 -- the letters of D's words after t tiles: the word of each output index has that of its state, all others have `-`
 unfoldable pub stateLetters : Contraction → Sizes → Slices → ℕ → List ℕ

@@ -1,2 +1,2 @@
 // The letter of each word of D's slice: old, part, final, or outside the layout.
-pub mod letters;
+pub mod after;

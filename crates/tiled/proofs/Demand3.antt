@@ -24,7 +24,7 @@ use Rattle.tile_questions.specs.TileQuestions.{workFits, acceptQuestions}
 use Rattle.answers.specs.TileAnswer.{doneIn, ran, tileRefused, TileCall, tileCallOf}
 use Rattle.tiled.specs.TileCall.{ranCall, tileCall, stateCall}
 use Rattle.tiled.specs.Demand3.{Call, tiles, state, Answer, tiled, found, After, run, next, answer, count, answers, Demand3, EveryListMeetsDemand3}
-use Rattle.tiled.proofs.Soundness.{setting-same, sound}
+use Rattle.accept.proofs.Soundness.{setting-same, sound}
 use Rattle.accept.proofs.AcceptQuestions.{same-questions, accepted}
 use Rattle.tiled.proofs.TileAnswered.{tile-answers, state-answers}
 

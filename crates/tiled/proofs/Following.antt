@@ -24,7 +24,7 @@ use Rattle.tiles.proofs.PanelWords.{final-word}
 use Rattle.tile_blocks.specs.ContractionInTiles.{cutOf, addressAt, setting}
 use Rattle.tile_questions.specs.TileQuestions.{sizesFit, workFits, Accepted}
 use Rattle.tiled.specs.Demand3.{Call, tiles, run, next, count, Consequences, ConsequencesHold}
-use Rattle.tiled.proofs.Soundness.{closed-result}
+use Rattle.accept.proofs.Soundness.{closed-result}
 use Rattle.accept.proofs.AcceptQuestions.{accepted}
 use Rattle.tiled.proofs.Demand3.{count-le, words-closed, demand3}
 

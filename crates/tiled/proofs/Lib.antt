@@ -2,4 +2,3 @@ pub mod Agrees
 pub mod TileAnswered
 pub mod Demand3
 pub mod Following
-pub mod Soundness

@@ -1,7 +1,7 @@
 -- What a tile call and a state question answer and leave, where a question refused and where all passed. Both calls ask 1 to 10 first, and the
 -- rest where those pass.
 -- Assumes nothing.
-use mathlib.Core.Path.{_≡_, refl, sym, _∙_}
+use mathlib.Core.Path.{_≡_, refl, sym, _∙_, ap}
 use mathlib.Core.Bool.{Bool, true, false, cond, _&&_}
 use mathlib.Core.List.{List, _++_}
 use Prim.Native.Nat.{ℕ, _+_, _*_, _≤_, _<_}
@@ -12,17 +12,18 @@ use borrow.Author.Tests.{le-leb}
 use Rattle.contraction.specs.declared.contraction.Contraction.{Contraction}
 use Rattle.contraction.specs.Operands.{D}
 use Rattle.questions.specs.Questions.{Question, refusal}
-use Rattle.questions.proofs.Refusal.{refusal-next, refusal-first, answers-no, answers-yes}
+use Rattle.questions.proofs.Refusal.{refusal-next, refusal-first, answers-no, answers-yes, refusal-both}
 use Rattle.meaning.specs.Meaning.{Slices}
 use Rattle.tiles.specs.declared.grid.Sizes.{Sizes}
 use Rattle.tiles.specs.Cut.{total}
 use Rattle.tiles.specs.Progress.{stateAt}
 use Rattle.tile_blocks.specs.ContractionInTiles.{cutOf}
-use Rattle.tile_questions.specs.TileQuestions.{roomQuestion, doneQuestion, indexQuestion, acceptQuestions, tileQuestions, stateQuestions}
+use Rattle.tile_questions.specs.TileQuestions.{roomQuestion, doneQuestion, indexQuestion, acceptQuestions, tileQuestions, stateQuestions, Accepted}
 use Rattle.accept.proofs.AcceptQuestions.{numbered}
-use Rattle.answers.specs.TileAnswer.{TileCall, tileRefused, tileCallOf}
+use Rattle.answers.specs.TileAnswer.{TileCall, tileRefused, tileCallOf, ran}
 use Rattle.answers.specs.StateAnswer.{is, stateRefused}
 use Rattle.tiled.specs.TileCall.{ranCall, tileCall, stateCall}
+use Rattle.words.proofs.Lists.{eqb-true}
 
 module _ (c : Contraction) (z : Sizes) (w : Slices) where
   -- a call that asks 1 to 10 and then the rest: x where all pass, else f of the number that refuses
@@ -105,3 +106,23 @@ module _ (c : Contraction) (z : Sizes) (w : Slices) where
       state-answers b =
           hangs later-state (is (stateAt (cutOf c z) t h i j)) stateRefused a (ltb h (cutOf c z .H) && (ltb i (cutOf c z .M) && ltb j (cutOf c z .N))) 13 (omega arith)
           (rw (le-leb t (total (cutOf c z)) b))
+
+-- a tile call that ran was accepted
+module _ (c : Contraction) (z : Sizes) (w : Slices) (work : List ℕ) (t budget : ℕ) {r : ℕ} {full : Bool} {ds ws : List ℕ}
+    (e : tileCallOf (ran r full) ds ws ≡ tileCall c z w work t budget) where
+  abbrev refused : ℕ
+  refused = refusal (tileQuestions c z w work t)
+
+  all-passed : (refused ≡ 0) × (tileCallOf (ran r full) ds ws ≡ ranCall c z w work t budget)
+  unfolding tileCall
+  all-passed = go (eqb refused 0) (eqb-true refused 0) e
+    where
+      go : (x : Bool) → (x ≡ true → refused ≡ 0) → tileCallOf (ran r full) ds ws ≡ cond x (ranCall c z w work t budget) (tileCallOf (tileRefused refused t) (w D) work)
+          → (refused ≡ 0) × (tileCallOf (ran r full) ds ws ≡ ranCall c z w work t budget)
+      go true zero f = (zero refl, f)
+      go false zero f = let two : ran r full ≡ tileRefused refused t = ap (λ (x : TileCall). x .answer) f in let no : _≡_ {A = ℕ} 0 1 = cc in absurd (omega arith)
+
+  pub ran-accepted : Accepted c z w
+  unfolding tileQuestions
+  ran-accepted =
+      record { passed = refusal-both (acceptQuestions c z w) (roomQuestion z (length work) ++ doneQuestion (cutOf c z) t) (numbered c z w) (all-passed .0) .0 }

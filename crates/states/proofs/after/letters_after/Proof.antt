@@ -5,8 +5,8 @@ use mathlib.Core.Path.{_≡_, _∙_}
 use denote.Ref.{now}
 use borrow.Author.Needs.{needs}
 use Rattle.states.proofs.Lettering.{none-refused, all-tiles, all-placed, all-lettered}
-use Rattle.states.proofs.letters.letters_after.Statement.{statement}
-use Rattle.states.proofs.letters.letters_after.Tie as tie
+use Rattle.states.proofs.after.letters_after.Statement.{statement}
+use Rattle.states.proofs.after.letters_after.Tie as tie
 
 of-requires : tie.Need-of-requires
 of-requires c κs = search needs

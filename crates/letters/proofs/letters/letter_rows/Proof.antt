@@ -8,9 +8,9 @@ use lib.ListN.{length-set}
 use Rattle.groups.specs.Groups.{batch, row as rowGroup, column}
 use Rattle.tiles.specs.Grid.{cutIn}
 use Rattle.tiles.proofs.Sizes.{M-small}
-use Rattle.states.proofs.Lettering.{Turns, turns-none, turns-next, turns-all, grid-sizes, plan-place, code-place, rowLetter, row-next, rows-lettered}
-use Rattle.states.proofs.letters.letter_rows.Statement.{statement}
-use Rattle.states.proofs.letters.letter_rows.Tie as tie
+use Rattle.letters.proofs.Lettered.{Turns, turns-none, turns-next, turns-all, grid-sizes, plan-place, code-place, rowLetter, row-next, rows-lettered}
+use Rattle.letters.proofs.letters.letter_rows.Statement.{statement}
+use Rattle.letters.proofs.letters.letter_rows.Tie as tie
 
 abbrev Inv-loop : tie.InvT-loop
 Inv-loop g t h j out₀ o row rows at-column from i₀ out i = Turns rows (rowLetter (cutIn g) t h j row from) out₀ i out

@@ -3,22 +3,15 @@ ghost use Prim.Native.Nat.{_<_};
 ghost use lib.ListN.{length};
 ghost use Rattle.words.specs.Loops.{each};
 ghost use Rattle.words.specs.Lists.{tabulate};
-ghost use Rattle.contraction.specs.Operands.{three};
-ghost use Rattle.tiles.specs.Cut.{total};
 ghost use Rattle.tiles.specs.Grid.{cutIn, stateOf};
-ghost use Rattle.tile_blocks.specs.ContractionInTiles.{cutOf};
 ghost use Rattle.tile_blocks.specs.Planned.{GridOf};
-ghost use Rattle.tile_questions.specs.TileQuestions.{Accepted};
-ghost use Rattle.states.specs.StateLetters.{letterOf, stateLetters, outside};
-ghost use Rattle.states.specs.Placed.{Placed, lettered, columnLetters};
-use accept::accept::Accept;
+ghost use Rattle.letters.specs.Letters.{letterOf, outside};
+ghost use Rattle.letters.specs.Placed.{Placed, lettered, columnLetters};
 use contraction::contraction::Contraction;
-use contraction::contraction::Lengths;
 use offsets::offsets::offset_in;
 use plan::plan::Plan;
 use tile_blocks::tile_places::at_batch;
 use tiles::grid::Grid;
-use tiles::grid::Sizes;
 use tiles::grid::State;
 
 fn letter_of(s: State) -> u8
@@ -65,7 +58,7 @@ fn letter_columns(p: Plan, g: Grid, t: u64, h: u32, out: &mut [u8])
 }
 
 // All output indices: each one's letter at its place in D.
-fn letter_batches(p: Plan, g: Grid, t: u64, out: &mut [u8])
+pub fn letter_batches(p: Plan, g: Grid, t: u64, out: &mut [u8])
     requires { ⌜ GridOf p g × Placed p (cutIn g) (length (now out)) ⌝ }
     ensures { λ _. ⌜ now (out .exit) ≡ each (cutIn g .H) (columnLetters p (cutIn g) t) (now (out .entry)) ⌝ }
 {
@@ -79,7 +72,7 @@ fn letter_batches(p: Plan, g: Grid, t: u64, out: &mut [u8])
 }
 
 // `-` for every word: as yet all are outside the layout.
-fn clear(out: &mut [u8])
+pub fn clear(out: &mut [u8])
     ensures { λ _. ⌜ now (out .exit) ≡ tabulate (length (now (out .entry))) (λ k. outside) ⌝ }
 {
     let mut k: usize = 0;
@@ -87,30 +80,4 @@ fn clear(out: &mut [u8])
         out[k] = b'-';
         k += 1;
     }
-}
-
-// The letters of D's words after t tiles; the total of tiles.
-pub fn letters_after(
-    c: Contraction,
-    z: Sizes,
-    a: &[u32],
-    b: &[u32],
-    d: &[u32],
-    t: u64,
-    out: &mut [u8],
-) -> u64
-    requires { ⌜ Accepted c z (three (now a) (now b) (now d)) × (length (now out) ≡ length (now d)) ⌝ }
-    ensures { λ r. ⌜ (r ≡ total (cutOf c z))
-        × (now (out .exit) ≡ stateLetters c z (three (now (a .entry)) (now (b .entry)) (now (d .entry))) t) ⌝ }
-{
-    let n = Lengths {
-        a: a.len(),
-        b: b.len(),
-        d: d.len(),
-    };
-    let x = Accept::of(c, z, n);
-    let g = x.grid;
-    clear(out);
-    letter_batches(x.plan, g, t, out);
-    g.total
 }

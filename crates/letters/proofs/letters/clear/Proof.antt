@@ -6,9 +6,9 @@ use lib.ListN.{length}
 use borrow.Author.Needs.{needs}
 use mathlib.Core.Path.{refl}
 use Rattle.words.proofs.Filled.{Filled, filled-none, filled-more, filled-all}
-use Rattle.states.specs.StateLetters.{outside}
-use Rattle.states.proofs.letters.clear.Statement.{statement}
-use Rattle.states.proofs.letters.clear.Tie as tie
+use Rattle.letters.specs.Letters.{outside}
+use Rattle.letters.proofs.letters.clear.Statement.{statement}
+use Rattle.letters.proofs.letters.clear.Tie as tie
 
 abbrev Inv-loop : tie.InvT-loop
 Inv-loop out₀ k₀ out k = Filled (λ n. outside) out₀ out k

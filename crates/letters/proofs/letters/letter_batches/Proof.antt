@@ -5,10 +5,10 @@ use mathlib.Core.Path.{sym, subst}
 use native.Mathlib.Omega.{arith}
 use borrow.Author.Needs.{needs}
 use Rattle.tiles.specs.Grid.{cutIn}
-use Rattle.states.specs.Placed.{Placed, columnLetters}
-use Rattle.states.proofs.Lettering.{Turns, turns-none, turns-next, turns-all}
-use Rattle.states.proofs.letters.letter_batches.Statement.{statement}
-use Rattle.states.proofs.letters.letter_batches.Tie as tie
+use Rattle.letters.specs.Placed.{Placed, columnLetters}
+use Rattle.letters.proofs.Lettered.{Turns, turns-none, turns-next, turns-all}
+use Rattle.letters.proofs.letters.letter_batches.Statement.{statement}
+use Rattle.letters.proofs.letters.letter_batches.Tie as tie
 
 abbrev Inv-loop : tie.InvT-loop
 Inv-loop p g t out₀ batches h₀ out h = Turns batches (columnLetters p (cutIn g) t) out₀ h out

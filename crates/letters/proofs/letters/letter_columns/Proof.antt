@@ -6,10 +6,10 @@ use native.Mathlib.Omega.{arith}
 use Rattle.words.specs.Loops.{each}
 use Rattle.tiles.specs.Grid.{cutIn}
 use Rattle.tiles.proofs.Sizes.{N-small}
-use Rattle.states.specs.Placed.{Placed, lettered}
-use Rattle.states.proofs.Lettering.{Turns, turns-none, turns-next, turns-all}
-use Rattle.states.proofs.letters.letter_columns.Statement.{statement}
-use Rattle.states.proofs.letters.letter_columns.Tie as tie
+use Rattle.letters.specs.Placed.{Placed, lettered}
+use Rattle.letters.proofs.Lettered.{Turns, turns-none, turns-next, turns-all}
+use Rattle.letters.proofs.letters.letter_columns.Statement.{statement}
+use Rattle.letters.proofs.letters.letter_columns.Tie as tie
 
 abbrev Inv-loop : tie.InvT-loop
 Inv-loop p g t h out₀ columns j₀ out j = Turns columns (λ j. each (cutIn g .M) (λ i. lettered p (cutIn g) t h i j)) out₀ j out

@@ -1,7 +1,7 @@
 -- The letters of the states, by computation.
 -- Assumes nothing.
 use mathlib.Core.Path.{refl}
-use Rattle.states.specs.LetterCases.{LetterCases}
+use Rattle.letters.specs.LetterCases.{LetterCases}
 
 pub letter-cases : LetterCases
 letter-cases =

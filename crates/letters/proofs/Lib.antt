@@ -1,0 +1,2 @@
+pub mod LetterCases
+pub mod Lettered

@@ -1,0 +1,2 @@
+// The letter of each output index, put at its place in D.
+pub mod letters;
