@@ -1,2 +1,1 @@
 pub mod DirectResult
-pub mod GroupRuns

@@ -3,11 +3,12 @@ ghost use lib.ListN.{length};
 ghost use Rattle.words.specs.Loops.{each};
 ghost use Rattle.groups.specs.Groups.{size};
 ghost use Rattle.meaning.specs.Meaning.{combined};
-ghost use Rattle.direct.specs.Walk.{steps, places, over, filled, Walks, Clear};
-use super::sum::depth_sum;
-use super::walk::Walk;
+ghost use Rattle.sums.specs.Walk.{steps, places, over, Walks};
+ghost use Rattle.direct.specs.Filled.{filled, Clear};
 use contraction::contraction::Contraction;
 use offsets::offsets::Offsets;
+use sums::sum::depth_sum;
+use sums::walk::Walk;
 
 // alpha × a sum + beta × the old word.
 fn combine(alpha: u32, sum: u32, beta: u32, old: u32) -> u32

@@ -1,4 +1,2 @@
-// The direct sum: groups are walked in runs, A and B summed along the depth group, D filled.
+// The direct sum: D filled along its labels, each word with the sum over the depth group.
 pub mod fill;
-pub mod sum;
-pub mod walk;

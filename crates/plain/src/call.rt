@@ -6,9 +6,9 @@ use answers::plain_answer::Outcome;
 use contraction::contraction::Contraction;
 use contraction::contraction::Lengths;
 use direct::fill::fill;
-use direct::walk::walk_of;
 use plan::plan::output_plan_of;
 use questions::questions::first_no;
+use sums::walk::walk_of;
 
 // Questions 1 to 9; where all pass, D's words become the contraction's. A refusal changes no word.
 pub fn contract(c: Contraction, a: &[u32], b: &[u32], d: &mut [u32]) -> Outcome

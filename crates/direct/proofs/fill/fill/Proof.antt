@@ -18,9 +18,10 @@ use Rattle.groups.specs.Held.{labelsIn}
 use Rattle.offsets.specs.Counts.{offsetIn}
 use Rattle.offsets.specs.declared.offsets.Offsets.{Offsets}
 use Rattle.offsets.specs.Offsets.{wordsIn, Words}
-use Rattle.direct.specs.declared.walk.Walk.{Walk}
-use Rattle.direct.specs.Walk.{steps, places, filled, Readable, Walks, Clear}
-use Rattle.direct.proofs.GroupRuns.{run-below, run-starts, run-place}
+use Rattle.sums.specs.declared.walk.Walk.{Walk}
+use Rattle.sums.specs.Walk.{steps, places, Readable, Walks}
+use Rattle.direct.specs.Filled.{filled, Clear}
+use Rattle.sums.proofs.GroupRuns.{run-below, run-starts, run-place}
 use Rattle.direct.proofs.fill.fill.Statement.{statement}
 use Rattle.direct.proofs.fill.fill.Tie as tie
 

@@ -20,7 +20,8 @@ use Rattle.offsets.specs.declared.offsets.Offsets.{Offsets}
 use Rattle.offsets.specs.Offsets.{wordsIn, Words}
 use Rattle.offsets.proofs.OwnedWords.{words-fit}
 use Rattle.meaning.specs.Meaning.{combined}
-use Rattle.direct.specs.Walk.{steps, sumFrom, filled, Readable, Clear}
+use Rattle.sums.specs.Walk.{steps, sumFrom, Readable}
+use Rattle.direct.specs.Filled.{filled, Clear}
 use Rattle.direct.proofs.fill.fill_run.Statement.{statement}
 use Rattle.direct.proofs.fill.fill_run.Tie as tie
 

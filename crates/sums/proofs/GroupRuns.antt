@@ -13,8 +13,8 @@ use Rattle.offsets.specs.declared.offsets.Offsets.{Offsets}
 use Rattle.offsets.specs.Offsets.{wordsIn, Words}
 use Rattle.offsets.specs.FirstLabel.{firstLabel}
 use Rattle.offsets.proofs.Runs.{first-long, offset-run}
-use Rattle.direct.specs.declared.walk.Walk.{Walk}
-use Rattle.direct.specs.Walk.{stepped, reached, Walks}
+use Rattle.sums.specs.declared.walk.Walk.{Walk}
+use Rattle.sums.specs.Walk.{stepped, reached, Walks}
 
 -- a step from a word that was reduced twice
 step-word : (x y z : ℕ) → word 64 (word 64 (x + word 64 y) + z) ≡ word 64 (x + (y + z))

@@ -13,9 +13,9 @@ use Rattle.groups.specs.Held.{labelsIn}
 use Rattle.groups.specs.Foldable.{Foldable}
 use Rattle.offsets.specs.declared.first_label.FirstLabel.{FirstLabel}
 use Rattle.offsets.specs.FirstLabel.{firstLabel, FirstLabelOf}
-use Rattle.direct.specs.Walk.{Walks}
-use Rattle.direct.proofs.walk.walk_of.Statement.{statement}
-use Rattle.direct.proofs.walk.walk_of.Tie as tie
+use Rattle.sums.specs.Walk.{Walks}
+use Rattle.sums.proofs.walk.walk_of.Statement.{statement}
+use Rattle.sums.proofs.walk.walk_of.Tie as tie
 
 counted : (g : List Label) → size g ≡ firstLabel g .extent * size (drop 1 g)
 counted [] = refl

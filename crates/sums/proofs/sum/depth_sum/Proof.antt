@@ -18,11 +18,11 @@ use Rattle.groups.specs.Held.{labelsIn}
 use Rattle.offsets.specs.declared.offsets.Offsets.{Offsets}
 use Rattle.offsets.specs.Counts.{offsetIn}
 use Rattle.offsets.specs.Offsets.{wordsIn, Words}
-use Rattle.direct.specs.declared.walk.Walk.{Walk}
-use Rattle.direct.specs.Walk.{stepped, reached, steps, dot, runSum, sumFrom, Walks}
-use Rattle.direct.proofs.GroupRuns.{run-below, run-starts, run-place}
-use Rattle.direct.proofs.sum.depth_sum.Statement.{statement}
-use Rattle.direct.proofs.sum.depth_sum.Tie as tie
+use Rattle.sums.specs.declared.walk.Walk.{Walk}
+use Rattle.sums.specs.Walk.{stepped, reached, steps, dot, runSum, sumFrom, Walks}
+use Rattle.sums.proofs.GroupRuns.{run-below, run-starts, run-place}
+use Rattle.sums.proofs.sum.depth_sum.Statement.{statement}
+use Rattle.sums.proofs.sum.depth_sum.Tie as tie
 
 -- A's word × B's word at a count
 abbrev term : List Label → List ℕ → List ℕ → Offsets → ℕ → ℕ

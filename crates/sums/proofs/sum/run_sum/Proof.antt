@@ -15,9 +15,9 @@ use Rattle.words.proofs.Modular.{word-sum}
 use Rattle.contraction.specs.Operands.{A, B}
 use Rattle.offsets.specs.Offsets.{wordsIn}
 use Rattle.offsets.proofs.OwnedWords.{words-fit}
-use Rattle.direct.specs.Walk.{stepped, steps, dot}
-use Rattle.direct.proofs.sum.run_sum.Statement.{statement}
-use Rattle.direct.proofs.sum.run_sum.Tie as tie
+use Rattle.sums.specs.Walk.{stepped, steps, dot}
+use Rattle.sums.proofs.sum.run_sum.Statement.{statement}
+use Rattle.sums.proofs.sum.run_sum.Tie as tie
 
 -- an address word that is the place of a count
 placed : {n : ℕ} {place : ℕ → ℕ} {len i v : ℕ} → Within n place len → i ≡ place v → v < n → i < len

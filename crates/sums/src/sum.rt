@@ -1,7 +1,7 @@
 ghost use mathlib.Core.Path.{_≡_};
 ghost use Rattle.words.specs.Words.{word};
 ghost use Rattle.offsets.specs.Offsets.{wordsIn};
-ghost use Rattle.direct.specs.Walk.{steps, runSum, sumFrom, over, RunReadable, Readable, Walks};
+ghost use Rattle.sums.specs.Walk.{steps, runSum, sumFrom, over, RunReadable, Readable, Walks};
 use super::walk::Walk;
 use contraction::contraction::Contraction;
 use offsets::offsets::Offsets;

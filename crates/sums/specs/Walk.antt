@@ -1,4 +1,4 @@
--- What the loops of the plain engine leave, by address words. Inside contracts only.
+-- Walks of a group in runs, and the sums along them, by address words. Inside contracts only.
 -- Assumes nothing.
 use Prim.Native.Nat.{ℕ, _+_, _*_, _<_, _≤_}
 use mathlib.Core.Path.{_≡_}
@@ -6,9 +6,9 @@ use mathlib.Core.List.{List}
 use lib.ListN.{length, getD}
 use Rattle.words.specs.Sums.{sumTo}
 use Rattle.words.specs.Words.{word, wordOf}
-use Rattle.words.specs.Loops.{put, Within}
+use Rattle.words.specs.Loops.{Within}
 use Rattle.limits.specs.Limits.{axesLimit}
-use Rattle.contraction.specs.Operands.{Operand, A, B, D}
+use Rattle.contraction.specs.Operands.{Operand, A, B}
 use Rattle.groups.specs.Groups.{Label, size}
 use Rattle.groups.specs.Held.{labelsIn}
 use Rattle.groups.specs.Foldable.{Foldable}
@@ -16,8 +16,7 @@ use Rattle.offsets.specs.Counts.{offsetIn}
 use Rattle.offsets.specs.declared.offsets.Offsets.{Offsets}
 use Rattle.offsets.specs.Offsets.{wordsIn}
 use Rattle.offsets.specs.FirstLabel.{firstLabel}
-use Rattle.meaning.specs.Meaning.{combined}
-use Rattle.direct.specs.declared.walk.Walk.{Walk}
+use Rattle.sums.specs.declared.walk.Walk.{Walk}
 
 -- the address word v steps from x
 abbrev pub stepped : ℕ → ℕ → ℕ → ℕ
@@ -47,10 +46,6 @@ runSum n at a b = dot n (λ v. at v A) a (λ v. at v B) b
 unfoldable pub sumFrom : List Label → List ℕ → List ℕ → (Operand → ℕ) → ℕ
 sumFrom g a b at = dot (size g) (reached A (at A) g) a (reached B (at B) g) b
 
--- D's words with the one at an output's address word filled
-unfoldable pub filled : ℕ → ℕ → List Label → List ℕ → List ℕ → (Operand → ℕ) → List ℕ → List ℕ
-filled alpha beta g a b at = put (combined alpha beta (sumFrom g a b at)) (at D)
-
 -- ---- what the loops may assume
 
 -- along a run of n places in each tensor, all that is read is inside
@@ -62,11 +57,6 @@ pub record RunReadable (n : ℕ) (at : ℕ → Operand → ℕ) (a b : List ℕ)
 pub record Readable (g : List Label) (a b : List ℕ) (at : Operand → ℕ) : Type 0 where
   pub inA : Within (size g) (reached A (at A) g) (length a)
   pub inB : Within (size g) (reached B (at B) g) (length b)
-
--- from the address words of each count below n, all that is read is inside, and the place that is written is one of a list of that length
-pub record Clear (n : ℕ) (at : ℕ → Operand → ℕ) (g : List Label) (a b : List ℕ) (len : ℕ) : Type 0 where
-  pub reads : (v : ℕ) → v < n → Readable g a b (at v)
-  pub writes : Within n (λ v. at v D) len
 
 -- the labels that a walk goes over
 abbrev pub over : Walk → List Label

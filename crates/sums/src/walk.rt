@@ -2,7 +2,7 @@ ghost use Prim.Native.Nat.{_≤_};
 ghost use Rattle.limits.specs.Limits.{axesLimit};
 ghost use Rattle.groups.specs.Held.{labelsIn};
 ghost use Rattle.groups.specs.Foldable.{Foldable};
-ghost use Rattle.direct.specs.Walk.{Walks};
+ghost use Rattle.sums.specs.Walk.{Walks};
 use groups::groups::Group;
 use offsets::first_label::FirstLabel;
 use offsets::offsets::Offsets;
