@@ -8,8 +8,10 @@ use lib.ListN.{length}
 use Rattle.contraction.specs.declared.contraction.Contraction.{Contraction}
 use Rattle.contraction.specs.Operands.{Operand, A, B, D, three, tensors, lengths}
 use Rattle.contraction.proofs.SliceLengths.{lengthsOf, slice-lengths}
-use Rattle.questions.specs.Questions.{refusal, tensorQuestions, labelQuestions, entryQuestions, layoutQuestions}
-use Rattle.questions.proofs.Refusal.{Numbered, passed, refusal-both}
+use Rattle.tensor_answers.specs.Asking.{refusal}
+use Rattle.tensor_answers.specs.OwnQuestions.{tensorQuestions}
+use Rattle.questions.specs.Questions.{labelQuestions, entryQuestions, layoutQuestions}
+use Rattle.tensor_answers.proofs.Refusal.{Numbered, passed, refusal-both}
 use Rattle.questions.proofs.Ready.{AllPassed, accepted-parts}
 use Rattle.meaning.specs.Meaning.{Slices}
 use Rattle.tiles.specs.declared.grid.Sizes.{Sizes}

@@ -5,7 +5,8 @@ use mathlib.Core.Path.{_≡_}
 use mathlib.Core.List.{_++_}
 use Rattle.contraction.specs.declared.contraction.Contraction.{Contraction}
 use Rattle.contraction.specs.Operands.{Operand, tensors}
-use Rattle.questions.specs.Questions.{refusal, layoutQuestions}
+use Rattle.tensor_answers.specs.Asking.{refusal}
+use Rattle.questions.specs.Questions.{layoutQuestions}
 use Rattle.plan.specs.Plan.{Planned}
 use Rattle.tiles.specs.declared.grid.Sizes.{Sizes}
 use Rattle.tile_blocks.specs.Planned.{GridOf}

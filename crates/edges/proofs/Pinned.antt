@@ -4,6 +4,7 @@ use Rattle.limits.proofs.LimitCases.{limit-cases}
 use Rattle.validity.proofs.TensorCases.{tensor-cases}
 use Rattle.points.proofs.LabelCases.{label-cases}
 use Rattle.contraction.proofs.OrderCases.{order-cases}
+use Rattle.tensor_answers.proofs.OwnQuestionCases.{own-question-cases}
 use Rattle.questions.proofs.QuestionCases.{question-cases}
 use Rattle.groups.proofs.GroupCases.{group-cases}
 use Rattle.offsets.proofs.OffsetCases.{offset-cases}
@@ -31,6 +32,7 @@ pinned =
       limits = limit-cases;
       one-tensor = tensor-cases;
       all-labels = label-cases;
+      own-order = own-question-cases;
       in-order = question-cases;
       of-tiles = tile-question-cases;
       starred = edges-hold;

@@ -6,6 +6,7 @@ use Rattle.limits.specs.LimitCases.{LimitCases}
 use Rattle.validity.specs.TensorCases.{TensorCases}
 use Rattle.points.specs.LabelCases.{LabelCases}
 use Rattle.contraction.specs.OrderCases.{OrderCases}
+use Rattle.tensor_answers.specs.OwnQuestionCases.{OwnQuestionCases}
 use Rattle.questions.specs.QuestionCases.{QuestionCases}
 use Rattle.groups.specs.GroupCases.{GroupCases}
 use Rattle.offsets.specs.OffsetCases.{OffsetCases}
@@ -31,6 +32,7 @@ pub record Pinned : Type 0 where
   -- the questions
   pub one-tensor : TensorCases
   pub all-labels : LabelCases
+  pub own-order : OwnQuestionCases
   pub in-order : QuestionCases
   pub of-tiles : TileQuestionCases
   -- what a contraction means: the ten starred cases of the rules, and one with every kind of label

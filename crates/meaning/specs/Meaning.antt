@@ -8,7 +8,8 @@ use Rattle.words.specs.Loops.{overwrite}
 use Rattle.layout.specs.Layout.{address}
 use Rattle.contraction.specs.declared.contraction.Contraction.{Contraction}
 use Rattle.contraction.specs.Operands.{Operand, A, B, D, Shape, tensors, shape}
-use Rattle.questions.specs.Questions.{refusal, layoutQuestions}
+use Rattle.tensor_answers.specs.Asking.{refusal}
+use Rattle.questions.specs.Questions.{layoutQuestions}
 use Rattle.groups.specs.Groups.{depth, group, outputs, size}
 use Rattle.meaning.specs.Index.{sumOver, outIndex}
 

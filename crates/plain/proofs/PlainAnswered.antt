@@ -6,8 +6,9 @@ use Prim.Native.Nat.{ℕ}
 use Rattle.contraction.specs.declared.contraction.Contraction.{Contraction}
 use Rattle.contraction.specs.Operands.{Operand, D, three, tensors, lengths}
 use Rattle.contraction.proofs.SliceLengths.{lengthsOf, slice-lengths}
-use Rattle.questions.specs.Questions.{refusal, layoutQuestions}
-use Rattle.questions.proofs.Refusal.{answers-no, answers-yes}
+use Rattle.tensor_answers.specs.Asking.{refusal}
+use Rattle.questions.specs.Questions.{layoutQuestions}
+use Rattle.tensor_answers.proofs.Refusal.{answers-no, answers-yes}
 use Rattle.meaning.specs.Meaning.{Slices, firstNo, result}
 use Rattle.answers.specs.PlainAnswer.{plainDone, plainRefused, plainCallOf}
 use Rattle.plain.specs.PlainCall.{plainCall}

@@ -1,4 +1,2 @@
-pub mod Joined
 pub mod QuestionCases
 pub mod Ready
-pub mod Refusal

@@ -1,4 +1,4 @@
--- The numbers of questions 1 to 9 and their order, by computation.
+-- The numbers of questions 5 to 9 and their order, by computation.
 -- Assumes nothing.
 use mathlib.Core.Path.{refl}
 use Rattle.layout.specs.Layout.{axesOf, layoutOf, axes}
@@ -7,7 +7,8 @@ use Rattle.labels.specs.Labels.{labels}
 use Rattle.points.specs.LabelQuestions.{extentsAgree, points, pointsFit}
 use Rattle.entries.specs.EntryQuestions.{span, inside, below, apart}
 use Rattle.contraction.specs.Operands.{together}
-use Rattle.questions.specs.Questions.{tensorQuestions, labelQuestions, entryQuestions, layoutQuestions}
+use Rattle.tensor_answers.specs.OwnQuestions.{tensorQuestions}
+use Rattle.questions.specs.Questions.{labelQuestions, entryQuestions, layoutQuestions}
 use Rattle.questions.specs.QuestionCases.{QuestionCases}
 
 pub question-cases : QuestionCases
@@ -15,11 +16,6 @@ unfolding axesOf layoutOf axes rankFits countsMatch lettersValid extentsValid st
 question-cases =
     record {
       accepted = refl;
-      rank-1 = refl;
-      counts-2 = refl;
-      letter-3 = refl;
-      across-tensors = refl;
-      extent-4 = refl;
       base-5 = refl;
       agree-6 = refl;
       points-7 = refl;

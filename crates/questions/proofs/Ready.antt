@@ -10,8 +10,10 @@ use Rattle.validity.specs.TensorQuestions.{rankFits, countsMatch, lettersValid,
 use Rattle.points.specs.LabelQuestions.{extentsAgree, pointsFit}
 use Rattle.entries.specs.EntryQuestions.{inside, apart}
 use Rattle.contraction.specs.Operands.{Operand, D, shape, together}
-use Rattle.questions.specs.Questions.{refusal, tensorQuestions, lentTensors, labelQuestions, entryQuestions, layoutQuestions}
-use Rattle.questions.proofs.Refusal.{passed, refusal-both, of-each}
+use Rattle.tensor_answers.specs.Asking.{refusal}
+use Rattle.tensor_answers.specs.OwnQuestions.{tensorQuestions}
+use Rattle.questions.specs.Questions.{lentTensors, labelQuestions, entryQuestions, layoutQuestions}
+use Rattle.tensor_answers.proofs.Refusal.{passed, refusal-both, of-each}
 
 -- questions 1 to 5 pass
 pub record EachPassed (t : Operand → Layout) (n : Operand → ℕ) : Type 0 where

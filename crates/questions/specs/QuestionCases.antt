@@ -1,4 +1,4 @@
--- The numbers of questions 1 to 9 and their order: each row fails a question and the next one too, and the first of the two answers.
+-- The numbers of questions 5 to 9 and their order: each row fails a question and the next one too, and the first of the two answers.
 -- Assumes nothing.
 use Prim.Native.Nat.{ℕ}
 use mathlib.Core.Path.{_≡_}
@@ -8,18 +8,16 @@ use Rattle.words.specs.Texts.{codes}
 use Rattle.layout.specs.declared.layout.Layout.{Layout}
 use Rattle.layout.specs.Layout.{layoutOf}
 use Rattle.contraction.specs.Operands.{three}
-use Rattle.questions.specs.Questions.{refusal, layoutQuestions}
+use Rattle.tensor_answers.specs.Asking.{refusal}
+use Rattle.questions.specs.Questions.{layoutQuestions}
 
 -- no letters: one entry, at the base
 abbrev pub scalar : Layout
 scalar = layoutOf [] [] [] 0
 
--- the answer where A has this layout and a slice of n words, where A and B have these, and where D has
+-- the answer where A has this layout and a slice of n words, and where D has
 abbrev ofA : Layout → ℕ → ℕ
 ofA l n = refusal (layoutQuestions (three l scalar scalar) (three n 1 1))
-
-abbrev ofAB : Layout → Layout → ℕ
-ofAB a b = refusal (layoutQuestions (three a b scalar) (three 1 1 1))
 
 abbrev ofD : Layout → ℕ → ℕ
 ofD l n = refusal (layoutQuestions (three scalar scalar l) (three 1 1 n))
@@ -33,12 +31,6 @@ still = pos 0 ∷ []
 
 pub record QuestionCases : Type 0 where
   pub accepted : ofA (layoutOf (codes "ij") (2 ∷ 3 ∷ []) ones 0) 4 ≡ 0
-  pub rank-1 : ofA (layoutOf (codes "abcdefghi") [] [] 0) 1 ≡ 1  -- nine letters, no extents
-  pub counts-2 : ofA (layoutOf (codes "1") (1 ∷ []) [] 0) 1 ≡ 2  -- no stride, a digit as a letter
-  pub letter-3 : ofA (layoutOf (codes "1") (0 ∷ []) still 0) 1 ≡ 3  -- a digit as a letter, extent 0
-  -- "Asked in this order": a question is put to all tensors before the next one. Extent 0 in A, a digit as a letter in B
-  pub across-tensors : ofAB (layoutOf (codes "i") (0 ∷ []) still 0) (layoutOf (codes "1") (1 ∷ []) still 0) ≡ 3
-  pub extent-4 : ofA (layoutOf (codes "i") (0 ∷ []) still 16777217) 1 ≡ 4  -- extent 0, a base too large
   pub base-5 : ofA (layoutOf (codes "ii") (2 ∷ 3 ∷ []) ones 16777217) 1 ≡ 5  -- a base too large, two extents of one letter
   pub agree-6 : ofA (layoutOf (codes "iij") (32768 ∷ 3 ∷ 65536 ∷ []) (pos 0 ∷ ones) 0) 1 ≡ 6  -- two extents of one letter, too many points
   pub points-7 : ofA (layoutOf (codes "ij") (32768 ∷ 32769 ∷ []) ones 0) 1 ≡ 7  -- too many points, entries outside

@@ -1,3 +1,2 @@
 // Questions 1 to 9 about a contraction, in their order.
 pub mod questions;
-pub mod tensor_answers;

@@ -2,10 +2,10 @@ ghost use mathlib.Core.Path.{_≡_};
 ghost use mathlib.Core.List.{_++_};
 ghost use Rattle.contraction.specs.Operands.{tensors, lengths};
 ghost use Rattle.contraction.specs.TensorAxes.{Ready};
-ghost use Rattle.questions.specs.Questions.{refusal, entriesInside, lentTensors, labelQuestions, entryQuestions};
+ghost use Rattle.tensor_answers.specs.Asking.{refusal};
+ghost use Rattle.tensor_answers.specs.OwnQuestions.{entriesInside};
+ghost use Rattle.questions.specs.Questions.{lentTensors, labelQuestions, entryQuestions};
 ghost use Rattle.questions.specs.Answers.{ListedOf};
-use super::tensor_answers::Asked;
-use super::tensor_answers::ask;
 use contraction::contraction::Contraction;
 use contraction::contraction::Lengths;
 use contraction::operands::Operands;
@@ -14,6 +14,8 @@ use labels::letter_sets::Labelled;
 use labels::letter_sets::Letters;
 use points::label_questions::extents_agree;
 use points::label_questions::points_fit;
+use tensor_answers::tensor_answers::Asked;
+use tensor_answers::tensor_answers::ask;
 
 // The number of the first of questions 1 to 9 that fails, or 0; where it is 0, the lists of the tensors' axes.
 pub struct Listed {

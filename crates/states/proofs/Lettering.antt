@@ -12,7 +12,8 @@ use Rattle.words.proofs.Tabulate.{length-tabulate, getD-tabulate}
 use Rattle.contraction.specs.declared.contraction.Contraction.{Contraction}
 use Rattle.contraction.specs.Operands.{Operand, D, three, tensors, lengths}
 use Rattle.contraction.proofs.SliceLengths.{lengthsOf, slice-lengths}
-use Rattle.questions.specs.Questions.{refusal, layoutQuestions}
+use Rattle.tensor_answers.specs.Asking.{refusal}
+use Rattle.questions.specs.Questions.{layoutQuestions}
 use Rattle.questions.proofs.Ready.{AllPassed}
 use Rattle.plan.specs.declared.plan.Plan.{Plan}
 use Rattle.plan.specs.Plan.{Planned}

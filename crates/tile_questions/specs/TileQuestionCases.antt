@@ -6,7 +6,7 @@ use mathlib.Core.Bool.{true, false}
 use mathlib.Core.List.{List, [], _∷_}
 use Rattle.contraction.specs.declared.contraction.Contraction.{Contraction}
 use Rattle.contraction.specs.Operands.{three, contractionOf}
-use Rattle.questions.specs.Questions.{refusal}
+use Rattle.tensor_answers.specs.Asking.{refusal}
 use Rattle.questions.specs.QuestionCases.{scalar}
 use Rattle.meaning.specs.Meaning.{Slices}
 use Rattle.tiles.specs.declared.grid.Sizes.{Sizes}

@@ -9,7 +9,8 @@ use lib.ListN.{length}
 use Rattle.limits.specs.Limits.{rowsLimit, colsLimit, depthLimit}
 use Rattle.contraction.specs.declared.contraction.Contraction.{Contraction}
 use Rattle.contraction.specs.Operands.{tensors}
-use Rattle.questions.specs.Questions.{Question, ask, refusal, layoutQuestions}
+use Rattle.tensor_answers.specs.Asking.{Question, ask, refusal}
+use Rattle.questions.specs.Questions.{layoutQuestions}
 use Rattle.meaning.specs.Meaning.{Slices}
 use Rattle.tiles.specs.declared.grid.Sizes.{Sizes}
 use Rattle.tiles.specs.Cut.{Cut, total}

@@ -2,11 +2,11 @@ ghost use mathlib.Core.Path.{_≡_};
 ghost use mathlib.Core.Bool.{cond};
 ghost use mathlib.Core.List.{_++_};
 ghost use lib.Dec.{eqb};
-ghost use Rattle.questions.specs.Questions.{refusal};
+ghost use Rattle.tensor_answers.specs.Asking.{refusal};
 ghost use Rattle.tiles.specs.Grid.{cutIn, Counted};
 ghost use Rattle.tile_questions.specs.TileQuestions.{within, sizesFit, sizeQuestion, roomQuestion, doneQuestion, indexQuestion};
 use limits::limits::Limits;
-use questions::tensor_answers::ask;
+use tensor_answers::tensor_answers::ask;
 use tiles::grid::Grid;
 use tiles::grid::Sizes;
 

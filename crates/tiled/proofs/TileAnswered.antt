@@ -11,8 +11,8 @@ use lib.ListN.{length}
 use borrow.Author.Tests.{le-leb}
 use Rattle.contraction.specs.declared.contraction.Contraction.{Contraction}
 use Rattle.contraction.specs.Operands.{D}
-use Rattle.questions.specs.Questions.{Question, refusal}
-use Rattle.questions.proofs.Refusal.{refusal-next, refusal-first, answers-no, answers-yes, refusal-both}
+use Rattle.tensor_answers.specs.Asking.{Question, refusal}
+use Rattle.tensor_answers.proofs.Refusal.{refusal-next, refusal-first, answers-no, answers-yes, refusal-both}
 use Rattle.meaning.specs.Meaning.{Slices}
 use Rattle.tiles.specs.declared.grid.Sizes.{Sizes}
 use Rattle.tiles.specs.Cut.{total}

@@ -13,7 +13,8 @@ use Rattle.limits.specs.Limits.{axesLimit}
 use Rattle.contraction.specs.declared.contraction.Contraction.{Contraction}
 use Rattle.contraction.specs.Operands.{three, tensors, lengths}
 use Rattle.contraction.proofs.SliceLengths.{lengthsOf, slice-lengths}
-use Rattle.questions.specs.Questions.{refusal, layoutQuestions}
+use Rattle.tensor_answers.specs.Asking.{refusal}
+use Rattle.questions.specs.Questions.{layoutQuestions}
 use Rattle.questions.proofs.Ready.{AllPassed, accepted-parts}
 use Rattle.groups.specs.Groups.{depth, size}
 use Rattle.groups.specs.Held.{labelsIn}

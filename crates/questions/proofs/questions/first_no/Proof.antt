@@ -8,10 +8,11 @@ use Rattle.layout.specs.Listed.{listed}
 use Rattle.labels.specs.declared.letter_sets.Labelled.{Labelled}
 use Rattle.contraction.specs.Operands.{Operand, A, B, D, three, tensors, lengths}
 use Rattle.contraction.specs.TensorAxes.{ListedFrom, Ready}
-use Rattle.questions.specs.Questions.{Lent, tensorQuestions, lentTensors, labelQuestions, entryQuestions, layoutQuestions}
-use Rattle.questions.specs.Answers.{AnswerOf}
-use Rattle.questions.proofs.Refusal.{refusal-next, refusal-first}
-use Rattle.questions.proofs.Joined.{joined-none}
+use Rattle.tensor_answers.specs.OwnQuestions.{Lent, tensorQuestions}
+use Rattle.questions.specs.Questions.{lentTensors, labelQuestions, entryQuestions, layoutQuestions}
+use Rattle.tensor_answers.specs.Answers.{AnswerOf}
+use Rattle.tensor_answers.proofs.Refusal.{refusal-next, refusal-first}
+use Rattle.tensor_answers.proofs.Joined.{joined-none}
 use Rattle.questions.proofs.questions.first_no.Statement.{statement}
 use Rattle.questions.proofs.questions.first_no.Tie as tie
 

@@ -6,7 +6,7 @@ use Rattle.points.specs.LabelQuestions.{extentsAgree, pointsFit}
 use Rattle.entries.specs.EntryQuestions.{apart}
 use Rattle.contraction.specs.Operands.{D, together}
 use Rattle.questions.specs.Questions.{labelQuestions, entryQuestions}
-use Rattle.questions.proofs.Refusal.{none-left, asked}
+use Rattle.tensor_answers.proofs.Refusal.{none-left, asked}
 use borrow.Author.Needs.{needs}
 use Rattle.questions.proofs.questions.later_refusal.Statement.{statement}
 use Rattle.questions.proofs.questions.later_refusal.Tie as tie

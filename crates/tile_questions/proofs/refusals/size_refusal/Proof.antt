@@ -2,7 +2,7 @@
 -- Assumes nothing.
 use borrow.Author.Needs.{needs}
 use borrow.Author.Tests.{eq-eqb, ne-eqb}
-use Rattle.questions.proofs.Refusal.{none-left, asked}
+use Rattle.tensor_answers.proofs.Refusal.{none-left, asked}
 use Rattle.tile_questions.specs.TileQuestions.{sizeQuestion}
 use Rattle.tile_questions.proofs.refusals.size_refusal.Statement.{statement}
 use Rattle.tile_questions.proofs.refusals.size_refusal.Tie as tie

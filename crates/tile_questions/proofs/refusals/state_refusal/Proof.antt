@@ -4,7 +4,7 @@ use mathlib.Core.Path.{refl, ap}
 use mathlib.Core.Bool.{_&&_}
 use lib.Dec.{leb, ltb}
 use borrow.Author.Needs.{needs}
-use Rattle.questions.proofs.Refusal.{none-left, asked}
+use Rattle.tensor_answers.proofs.Refusal.{none-left, asked}
 use Rattle.tile_questions.specs.TileQuestions.{doneQuestion, indexQuestion}
 use Rattle.tile_questions.proofs.refusals.state_refusal.Statement.{statement}
 use Rattle.tile_questions.proofs.refusals.state_refusal.Tie as tie

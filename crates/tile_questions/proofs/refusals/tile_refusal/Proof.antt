@@ -8,7 +8,7 @@ use native.Mathlib.Omega.{arith}
 use lib.Dec.{leb}
 use borrow.Author.Needs.{needs}
 use Rattle.limits.specs.Limits.{rowsLimit, colsLimit, depthLimit}
-use Rattle.questions.proofs.Refusal.{none-left, asked}
+use Rattle.tensor_answers.proofs.Refusal.{none-left, asked}
 use Rattle.tiles.specs.declared.grid.Grid.{Grid}
 use Rattle.tiles.specs.Grid.{Counted}
 use Rattle.tile_questions.specs.TileQuestions.{roomQuestion, doneQuestion}

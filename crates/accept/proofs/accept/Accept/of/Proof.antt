@@ -11,8 +11,10 @@ use borrow.Author.Tests.{eq-eqb, ne-eqb}
 use lib.Dec.{eqb}
 use Rattle.contraction.specs.declared.contraction.Contraction.{Contraction}
 use Rattle.contraction.specs.Operands.{Operand, tensors, lengths}
-use Rattle.questions.specs.Questions.{Question, refusal, tensorQuestions, labelQuestions, entryQuestions, layoutQuestions}
-use Rattle.questions.proofs.Refusal.{Numbered, passed, refusal-next, refusal-first, refusal-both}
+use Rattle.tensor_answers.specs.Asking.{Question, refusal}
+use Rattle.tensor_answers.specs.OwnQuestions.{tensorQuestions}
+use Rattle.questions.specs.Questions.{labelQuestions, entryQuestions, layoutQuestions}
+use Rattle.tensor_answers.proofs.Refusal.{Numbered, passed, refusal-next, refusal-first, refusal-both}
 use Rattle.questions.proofs.Ready.{AllPassed, accepted-parts}
 use Rattle.plan.proofs.GroupsFoldable.{all-foldable}
 use Rattle.tiles.specs.declared.grid.Sizes.{Sizes}

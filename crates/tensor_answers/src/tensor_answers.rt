@@ -1,8 +1,8 @@
 ghost use mathlib.Core.Path.{_≡_};
 ghost use mathlib.Core.Bool.{cond};
 ghost use mathlib.Core.List.{List, _++_};
-ghost use Rattle.questions.specs.Questions.{Lent};
-ghost use Rattle.questions.specs.Answers.{sooner, AnswerOf, AskedOf};
+ghost use Rattle.tensor_answers.specs.OwnQuestions.{Lent};
+ghost use Rattle.tensor_answers.specs.Answers.{sooner, AnswerOf, AskedOf};
 use entries::inside::all_inside;
 use labels::letter_sets::Labelled;
 use layout::axes::Axes;

@@ -17,13 +17,14 @@ use Rattle.layout.specs.Listed.{listed}
 use Rattle.validity.specs.TensorQuestions.{rankFits, lettersValid, extentsValid, stridesValid, sizesValid}
 use Rattle.validity.specs.Checked.{Checked}
 use Rattle.entries.specs.EntryQuestions.{inside}
-use Rattle.questions.specs.declared.tensor_answers.Asked.{Asked}
-use Rattle.questions.specs.Questions.{Lent, refusal, tensorQuestions}
-use Rattle.questions.specs.Answers.{AskedOf}
-use Rattle.questions.proofs.Refusal.{fails, passes, passed, none-left, asked}
+use Rattle.tensor_answers.specs.declared.tensor_answers.Asked.{Asked}
+use Rattle.tensor_answers.specs.Asking.{refusal}
+use Rattle.tensor_answers.specs.OwnQuestions.{Lent, tensorQuestions}
+use Rattle.tensor_answers.specs.Answers.{AskedOf}
+use Rattle.tensor_answers.proofs.Refusal.{fails, passes, passed, none-left, asked}
 use borrow.Author.Needs.{needs}
-use Rattle.questions.proofs.tensor_answers.Asked.of.Statement.{statement}
-use Rattle.questions.proofs.tensor_answers.Asked.of.Tie as tie
+use Rattle.tensor_answers.proofs.tensor_answers.Asked.of.Statement.{statement}
+use Rattle.tensor_answers.proofs.tensor_answers.Asked.of.Tie as tie
 
 and-true : (b : Bool) → (b && true) ≡ b
 and-true true = refl

@@ -4,8 +4,8 @@ use Prim.Native.Nat.{_≤_}
 use native.Mathlib.Nat.{min-eq-left, min-eq-right}
 use native.Mathlib.Omega.{arith}
 use borrow.Author.Tests.{eq-eqb, ne-eqb}
-use Rattle.questions.proofs.tensor_answers.sooner.Statement.{statement}
-use Rattle.questions.proofs.tensor_answers.sooner.Tie as tie
+use Rattle.tensor_answers.proofs.tensor_answers.sooner.Statement.{statement}
+use Rattle.tensor_answers.proofs.tensor_answers.sooner.Tie as tie
 
 returns : tie.Need-returns
 returns c = rw (eq-eqb (c .before .args .m) 0 (c .if1 .taken))

@@ -4,11 +4,11 @@ use mathlib.Core.Path.{sym}
 use Rattle.words.proofs.Sums.{every-and}
 use Rattle.layout.specs.Layout.{axes}
 use Rattle.entries.specs.EntryQuestions.{inside}
-use Rattle.questions.specs.Questions.{Lent}
-use Rattle.questions.proofs.Joined.{joined-refusal, joined-none}
+use Rattle.tensor_answers.specs.OwnQuestions.{Lent}
+use Rattle.tensor_answers.proofs.Joined.{joined-refusal, joined-none}
 use borrow.Author.Needs.{needs}
-use Rattle.questions.proofs.tensor_answers.Answer.and.Statement.{statement}
-use Rattle.questions.proofs.tensor_answers.Answer.and.Tie as tie
+use Rattle.tensor_answers.proofs.tensor_answers.Answer.and.Statement.{statement}
+use Rattle.tensor_answers.proofs.tensor_answers.Answer.and.Tie as tie
 
 sooner-requires : tie.Need-sooner-requires
 sooner-requires c κs = search needs

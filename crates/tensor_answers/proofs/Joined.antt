@@ -14,8 +14,9 @@ use Rattle.words.specs.Sums.{every}
 use Rattle.words.proofs.Sums.{every-and}
 use Rattle.layout.specs.Layout.{axes}
 use Rattle.validity.specs.TensorQuestions.{rankFits, countsMatch, lettersValid, extentsValid, sizesValid}
-use Rattle.questions.specs.Questions.{Lent, refusal, tensorQuestions}
-use Rattle.questions.specs.Answers.{sooner}
+use Rattle.tensor_answers.specs.Asking.{refusal}
+use Rattle.tensor_answers.specs.OwnQuestions.{Lent, tensorQuestions}
+use Rattle.tensor_answers.specs.Answers.{sooner}
 
 -- none, or asked after question k
 abbrev Later : ℕ → ℕ → Type 0

@@ -12,7 +12,7 @@ use Rattle.words.specs.Sums.{every, All}
 use Rattle.words.proofs.Lists.{T-true}
 use Rattle.words.proofs.Sums.{and-split, every-all}
 use Rattle.contraction.specs.Operands.{Operand, A, B, D, operands}
-use Rattle.questions.specs.Questions.{Question, ask, refusal}
+use Rattle.tensor_answers.specs.Asking.{Question, ask, refusal}
 
 -- every question's number is above 0, so that 0 says that none failed
 abbrev pub Numbered : List Question → Type 0

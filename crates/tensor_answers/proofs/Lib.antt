@@ -1,0 +1,3 @@
+pub mod Joined
+pub mod OwnQuestionCases
+pub mod Refusal

@@ -1,0 +1,4 @@
+pub mod Answers
+pub mod Asking
+pub mod OwnQuestionCases
+pub mod OwnQuestions
