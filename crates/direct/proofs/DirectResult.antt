@@ -22,7 +22,7 @@ use Rattle.meaning.specs.Meaning.{Slices, shapeIn, combined, entry, value, resu
 use Rattle.meaning.proofs.Result.{outputs-apart, term, value-counts}
 use Rattle.plan.proofs.Reached.{out-inside, reached-out, term-inside, reached-term}
 use Rattle.sums.specs.Walk.{reached, dot, sumFrom, Readable}
-use Rattle.direct.specs.Filled.{filled, Clear}
+use Rattle.direct.specs.FilledOutput.{filled, Clear}
 
 module _ (c : Contraction) (w : Slices) (p : AllPassed (tensors c) (λ o. length (w o))) (base : Operand → ℕ) (bases : (o : Operand) → base o ≡ tensors c o .base) where
   -- the folded groups, and the address words of an output count

@@ -4,7 +4,7 @@ ghost use Rattle.words.specs.Loops.{each};
 ghost use Rattle.groups.specs.Groups.{size};
 ghost use Rattle.meaning.specs.Meaning.{combined};
 ghost use Rattle.sums.specs.Walk.{steps, places, over, Walks};
-ghost use Rattle.direct.specs.Filled.{filled, Clear};
+ghost use Rattle.direct.specs.FilledOutput.{filled, Clear};
 use contraction::contraction::Contraction;
 use offsets::offsets::Offsets;
 use sums::sum::depth_sum;

@@ -1,2 +1,2 @@
 pub mod LetterCases
-pub mod Lettered
+pub mod LetterLoops

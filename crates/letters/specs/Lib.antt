@@ -1,3 +1,3 @@
 pub mod LetterCases
-pub mod Letters
 pub mod Placed
+pub mod PrintedLetters

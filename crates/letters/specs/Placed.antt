@@ -7,7 +7,7 @@ use Rattle.plan.specs.declared.plan.Plan.{Plan}
 use Rattle.tiles.specs.Cut.{Cut}
 use Rattle.tiles.specs.Progress.{stateAt}
 use Rattle.tile_blocks.specs.Planned.{placeD}
-use Rattle.letters.specs.Letters.{letterOf}
+use Rattle.letters.specs.PrintedLetters.{letterOf}
 
 module _ (p : Plan) (G : Cut) where
   -- each output index has its place in a slice of that many words

@@ -5,7 +5,7 @@ ghost use Rattle.words.specs.Loops.{each};
 ghost use Rattle.words.specs.Lists.{tabulate};
 ghost use Rattle.tiles.specs.Grid.{cutIn, stateOf};
 ghost use Rattle.tile_blocks.specs.Planned.{GridOf};
-ghost use Rattle.letters.specs.Letters.{letterOf, outside};
+ghost use Rattle.letters.specs.PrintedLetters.{letterOf, outside};
 ghost use Rattle.letters.specs.Placed.{Placed, lettered, columnLetters};
 use contraction::contraction::Contraction;
 use offsets::offsets::offset_in;

@@ -1,3 +1,3 @@
-pub mod Answers
+pub mod ListedTensors
 pub mod QuestionCases
 pub mod Questions

@@ -5,7 +5,7 @@ ghost use Rattle.contraction.specs.TensorAxes.{Ready};
 ghost use Rattle.tensor_answers.specs.Asking.{refusal};
 ghost use Rattle.tensor_answers.specs.OwnQuestions.{entriesInside};
 ghost use Rattle.questions.specs.Questions.{lentTensors, labelQuestions, entryQuestions};
-ghost use Rattle.questions.specs.Answers.{ListedOf};
+ghost use Rattle.questions.specs.ListedTensors.{ListedOf};
 use contraction::contraction::Contraction;
 use contraction::contraction::Lengths;
 use contraction::operands::Operands;

@@ -31,7 +31,7 @@ use Rattle.accept.proofs.AcceptQuestions.{same-questions, accepted}
 use Rattle.accept.proofs.Accepted.{grid-cut}
 use Rattle.accept.proofs.Reaches.{reaches-d, clear}
 use Rattle.accept.proofs.Soundness.{setting-same, sound}
-use Rattle.letters.specs.Letters.{letterOf, outside}
+use Rattle.letters.specs.PrintedLetters.{letterOf, outside}
 use Rattle.letters.specs.Placed.{Placed, columnLetters}
 use Rattle.states.specs.StateLetters.{stateLetters, EveryLetterRight}
 

@@ -15,7 +15,7 @@ use Rattle.tiles.specs.Progress.{stateAt}
 use Rattle.tiles.specs.Setting.{render}
 use Rattle.tile_blocks.specs.ContractionInTiles.{cutOf, addressAt, setting}
 use Rattle.tile_questions.specs.TileQuestions.{Accepted}
-use Rattle.letters.specs.Letters.{letterOf, outside}
+use Rattle.letters.specs.PrintedLetters.{letterOf, outside}
 
 -- the letters of D's words after t tiles: the word of each output index has that of its state, all others have `-`
 unfoldable pub stateLetters : Contraction → Sizes → Slices → ℕ → List ℕ

@@ -20,7 +20,7 @@ use Rattle.offsets.specs.declared.offsets.Offsets.{Offsets}
 use Rattle.offsets.specs.Offsets.{wordsIn, Words}
 use Rattle.sums.specs.declared.walk.Walk.{Walk}
 use Rattle.sums.specs.Walk.{steps, places, Readable, Walks}
-use Rattle.direct.specs.Filled.{filled, Clear}
+use Rattle.direct.specs.FilledOutput.{filled, Clear}
 use Rattle.sums.proofs.GroupRuns.{run-below, run-starts, run-place}
 use Rattle.direct.proofs.fill.fill.Statement.{statement}
 use Rattle.direct.proofs.fill.fill.Tie as tie

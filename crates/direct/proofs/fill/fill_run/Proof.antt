@@ -21,7 +21,7 @@ use Rattle.offsets.specs.Offsets.{wordsIn, Words}
 use Rattle.offsets.proofs.OwnedWords.{words-fit}
 use Rattle.meaning.specs.Meaning.{combined}
 use Rattle.sums.specs.Walk.{steps, sumFrom, Readable}
-use Rattle.direct.specs.Filled.{filled, Clear}
+use Rattle.direct.specs.FilledOutput.{filled, Clear}
 use Rattle.direct.proofs.fill.fill_run.Statement.{statement}
 use Rattle.direct.proofs.fill.fill_run.Tie as tie
 

@@ -6,7 +6,7 @@ use lib.ListN.{length}
 use borrow.Author.Needs.{needs}
 use mathlib.Core.Path.{refl}
 use Rattle.words.proofs.Filled.{Filled, filled-none, filled-more, filled-all}
-use Rattle.letters.specs.Letters.{outside}
+use Rattle.letters.specs.PrintedLetters.{outside}
 use Rattle.letters.proofs.letters.clear.Statement.{statement}
 use Rattle.letters.proofs.letters.clear.Tie as tie
 

@@ -6,7 +6,7 @@ use native.Mathlib.Omega.{arith}
 use borrow.Author.Needs.{needs}
 use Rattle.tiles.specs.Grid.{cutIn}
 use Rattle.letters.specs.Placed.{Placed, columnLetters}
-use Rattle.letters.proofs.Lettered.{Turns, turns-none, turns-next, turns-all}
+use Rattle.letters.proofs.LetterLoops.{Turns, turns-none, turns-next, turns-all}
 use Rattle.letters.proofs.letters.letter_batches.Statement.{statement}
 use Rattle.letters.proofs.letters.letter_batches.Tie as tie
 

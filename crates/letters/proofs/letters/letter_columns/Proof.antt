@@ -7,7 +7,7 @@ use Rattle.words.specs.Loops.{each}
 use Rattle.tiles.specs.Grid.{cutIn}
 use Rattle.tiles.proofs.Sizes.{N-small}
 use Rattle.letters.specs.Placed.{Placed, lettered}
-use Rattle.letters.proofs.Lettered.{Turns, turns-none, turns-next, turns-all}
+use Rattle.letters.proofs.LetterLoops.{Turns, turns-none, turns-next, turns-all}
 use Rattle.letters.proofs.letters.letter_columns.Statement.{statement}
 use Rattle.letters.proofs.letters.letter_columns.Tie as tie
 

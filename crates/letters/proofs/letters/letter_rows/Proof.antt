@@ -8,7 +8,7 @@ use lib.ListN.{length-set}
 use Rattle.groups.specs.Groups.{batch, row as rowGroup, column}
 use Rattle.tiles.specs.Grid.{cutIn}
 use Rattle.tiles.proofs.Sizes.{M-small}
-use Rattle.letters.proofs.Lettered.{Turns, turns-none, turns-next, turns-all, grid-sizes, plan-place, code-place, rowLetter, row-next, rows-lettered}
+use Rattle.letters.proofs.LetterLoops.{Turns, turns-none, turns-next, turns-all, grid-sizes, plan-place, code-place, rowLetter, row-next, rows-lettered}
 use Rattle.letters.proofs.letters.letter_rows.Statement.{statement}
 use Rattle.letters.proofs.letters.letter_rows.Tie as tie
 

@@ -22,7 +22,7 @@ use Rattle.tiles.specs.Grid.{cutIn}
 use Rattle.tiles.specs.Progress.{State, stateAt}
 use Rattle.tile_blocks.specs.Planned.{GridOf, atBatch, placeD}
 use Rattle.tile_blocks.specs.TilePlaces.{movedFrom}
-use Rattle.letters.specs.Letters.{letterOf}
+use Rattle.letters.specs.PrintedLetters.{letterOf}
 use Rattle.letters.specs.Placed.{lettered}
 
 -- ---- loops
