@@ -5,7 +5,7 @@
 //! the sum knows no groups, and where tiles need counts of groups nothing is folded, packed or run tile by tile.
 //! `job_model` adds the reading of a job file and the text that answers it.
 
-#![allow(dead_code)] // Each test file is a program of its own and uses a part of this.
+#![allow(dead_code)] // Each program of tests uses a part of this.
 
 pub mod broken;
 pub mod call;

@@ -2,17 +2,21 @@
 //! `NEZGRAK_JOB` names, or else the repository's `target/bin/nezgrak_job`.
 
 use super::job_model::{answer, read, refused};
+use std::collections::BTreeMap;
 use std::ffi::OsStr;
-use std::io::{ErrorKind, Read, Write};
+use std::io::{ErrorKind, Write};
 use std::panic::resume_unwind;
-use std::path::PathBuf;
-use std::process::{Child, Command, Stdio};
-use std::sync::mpsc;
+use std::path::{Path, PathBuf};
+use std::process::{ChildStdin, Command, Stdio};
+use std::sync::{Mutex, Once, OnceLock};
 use std::time::{Duration, Instant};
 use std::{env, thread};
 
 /// A run that takes longer has failed.
 const LIMIT: Duration = Duration::from_secs(20);
+
+/// So many bytes fit into a pipe: writing them does not wait for a reader.
+const PIPE: usize = 4_096;
 
 /// What a run printed, whether its exit status was 0, and how long it took.
 pub struct Printed {
@@ -22,46 +26,42 @@ pub struct Printed {
     pub time: Duration,
 }
 
-fn path() -> PathBuf {
-    let path = match env::var_os("NEZGRAK_JOB") {
-        Some(named) => PathBuf::from(named),
-        None => PathBuf::from(env!("CARGO_MANIFEST_DIR")).join("../target/bin/nezgrak_job"),
-    };
-    assert!(path.is_file(), "{} is missing: `rt check nezgrak_job`, in the repository, makes it", path.display());
-    path
+fn path() -> &'static Path {
+    static PATH: OnceLock<PathBuf> = OnceLock::new();
+    PATH.get_or_init(|| {
+        let path = match env::var_os("NEZGRAK_JOB") {
+            Some(named) => PathBuf::from(named),
+            None => PathBuf::from(env!("CARGO_MANIFEST_DIR")).join("../target/bin/nezgrak_job"),
+        };
+        assert!(path.is_file(), "{} is missing: `rt check nezgrak_job`, in the repository, makes it", path.display());
+        path
+    })
 }
 
 /// Runs the program with these arguments, and with these pieces at standard input, one after the other.
 pub fn run(arguments: &[&OsStr], pieces: &[&[u8]]) -> Printed {
     let mut command = Command::new(path());
     command.args(arguments).stdin(Stdio::piped()).stdout(Stdio::piped()).stderr(Stdio::piped());
+    command.env_remove("LD_LIBRARY_PATH"); // cargo's folders: the loader would look in each for the C library
     let start = Instant::now();
     let mut child = command.spawn().unwrap_or_else(|error| panic!("{}: {error}", path().display()));
-    let (out, err) = thread::scope(|scope| {
-        let (sender, receiver) = mpsc::channel();
-        let pipes = (child.stdin.take(), child.stdout.take(), child.stderr.take());
-        scope.spawn(move || sender.send(talk(pipes, pieces)));
-        receiver.recv_timeout(LIMIT).unwrap_or_else(|_| too_long(&mut child))
-    });
-    loop {
-        match child.try_wait().expect("the exit status") {
-            Some(status) => return Printed { out, err, success: status.success(), time: start.elapsed() },
-            None if start.elapsed() > LIMIT => too_long(&mut child),
-            None => thread::sleep(Duration::from_micros(20)),
+    let (watched, input) = (Watched::new(child.id()), child.stdin.take().expect("a pipe"));
+    let output = thread::scope(|scope| {
+        if pieces.iter().map(|piece| piece.len()).sum::<usize>() <= PIPE {
+            write(input, pieces);
+        } else {
+            scope.spawn(|| write(input, pieces));
         }
-    }
+        child.wait_with_output().expect("what the program printed")
+    });
+    drop(watched);
+    let time = start.elapsed();
+    assert!(time < LIMIT, "the program did not end within {LIMIT:?}");
+    Printed { out: output.stdout, err: output.stderr, success: output.status.success(), time }
 }
 
-fn too_long<T>(child: &mut Child) -> T {
-    child.kill().and_then(|()| child.wait()).expect("the end of the program");
-    panic!("the program did not end within {LIMIT:?}");
-}
-
-type Pipes = (Option<std::process::ChildStdin>, Option<std::process::ChildStdout>, Option<std::process::ChildStderr>);
-
-/// Writes the input and reads what is printed. The program may stop reading before the input ends.
-fn talk((input, out, err): Pipes, pieces: &[&[u8]]) -> (Vec<u8>, Vec<u8>) {
-    let mut input = input.expect("a pipe");
+/// Writes the input. The program may stop reading before it ends.
+fn write(mut input: ChildStdin, pieces: &[&[u8]]) {
     for (n, piece) in pieces.iter().enumerate() {
         if n > 0 {
             thread::sleep(Duration::from_millis(1)); // so that the pieces don't become one
@@ -71,14 +71,39 @@ fn talk((input, out, err): Pipes, pieces: &[&[u8]]) -> (Vec<u8>, Vec<u8>) {
             _ => {}
         }
     }
-    drop(input);
-    (all_of(out.expect("a pipe")), all_of(err.expect("a pipe")))
 }
 
-fn all_of(mut pipe: impl Read) -> Vec<u8> {
-    let mut bytes = Vec::new();
-    pipe.read_to_end(&mut bytes).expect("what the program printed");
-    bytes
+/// The processes that run, and when each began.
+static RUNNING: Mutex<BTreeMap<u32, Instant>> = Mutex::new(BTreeMap::new());
+
+/// A process that is killed where it runs for too long, so that nothing waits for it for ever.
+struct Watched(u32);
+
+impl Watched {
+    fn new(process: u32) -> Self {
+        static WATCH: Once = Once::new();
+        WATCH.call_once(|| drop(thread::spawn(watch)));
+        RUNNING.lock().expect("the processes").insert(process, Instant::now());
+        Self(process)
+    }
+}
+
+impl Drop for Watched {
+    fn drop(&mut self) {
+        RUNNING.lock().expect("the processes").remove(&self.0);
+    }
+}
+
+/// Never ends. A process that could not be killed has its turn again.
+fn watch() {
+    loop {
+        thread::sleep(LIMIT / 40);
+        for (process, start) in RUNNING.lock().expect("the processes").iter() {
+            if start.elapsed() > LIMIT {
+                let _ = Command::new("sh").args(["-c", &format!("kill -KILL {process}")]).status();
+            }
+        }
+    }
 }
 
 /// Runs the program on a file at standard input. It has to print what the model says and nothing else. Gives the text.
@@ -105,8 +130,10 @@ pub fn prints(file: &[u8], text: &str) {
     assert_eq!(check(file), text, "the answer to {}", shown(file));
 }
 
-/// The program, and the model, have to refuse each file by the number before it.
-pub fn refuse(cases: Vec<(u32, Vec<u8>)>) {
+/// The program, and the model, have to refuse each file by the number before it. A case that occurs again is run once.
+pub fn refuse(mut cases: Vec<(u32, Vec<u8>)>) {
+    cases.sort();
+    cases.dedup();
     let (numbers, files): (Vec<u32>, Vec<Vec<u8>>) = cases.into_iter().unzip();
     for ((number, file), text) in numbers.iter().zip(&files).zip(check_all(&files)) {
         assert_eq!(text, refused(*number), "the answer to {}", shown(file));

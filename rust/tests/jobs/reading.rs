@@ -1,13 +1,11 @@
 //! What is refused while a job file is read: every flaw alone, every two together, and beside questions that would
 //! fail after the reading. The first in the file answers.
 
-mod common;
-
-use common::broken::{sound_request, ways};
-use common::flaws::{flaws, Flaw, Records, Step};
-use common::job::Job;
-use common::program::refuse;
-use common::seen::Seen;
+use crate::common::broken::{sound_request, ways};
+use crate::common::flaws::{flaws, Flaw, Records, Step};
+use crate::common::job::Job;
+use crate::common::program::refuse;
+use crate::common::seen::Seen;
 
 /// A sound file whose words are all words, and one whose words are all bytes.
 fn sound() -> [Records; 2] {

@@ -1,11 +1,9 @@
 //! Document 01's example for the job program, from every count of tiles done and with every budget, and other small
 //! jobs whose answers are written out.
 
-mod common;
-
-use common::case::{Case, Tensor};
-use common::job::Job;
-use common::program::{check, prints};
+use crate::common::case::{Case, Tensor};
+use crate::common::job::Job;
+use crate::common::program::{check, prints};
 
 const TOTAL: u32 = 8;
 

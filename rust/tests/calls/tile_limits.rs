@@ -1,14 +1,12 @@
 //! The tile sizes, counts, budgets and slices of tile calls and state questions at their limits, and one past them.
 
-mod common;
-
-use common::case::{Case, Tensor};
-use common::cutting::{run_in, SIZES};
-use common::formula::contraction;
-use common::list::List;
-use common::request::{Ran, Request};
-use common::rng::Rng;
-use common::tile_call::{ask, check_ask, check_run, run, same};
+use crate::common::case::{Case, Tensor};
+use crate::common::cutting::{run_in, SIZES};
+use crate::common::formula::contraction;
+use crate::common::list::List;
+use crate::common::request::{Ran, Request};
+use crate::common::rng::Rng;
+use crate::common::tile_call::{ask, check_ask, check_run, run, same};
 use nezgrak::{OutputIndex, TileSizes};
 
 const LIMIT: usize = 16_777_216;

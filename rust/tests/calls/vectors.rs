@@ -1,16 +1,15 @@
-//! The contractions of `data/vectors.json`, which `data/README.md` describes, by the plain call and by tile calls.
+//! The contractions of `tests/data/vectors.json`, which `tests/data/README.md` describes, by the plain call and by tile
+//! calls.
 
-mod common;
-
-use common::case::{Case, Tensor};
-use common::groups::{Group, Groups};
-use common::json::Json;
-use common::request::Request;
-use common::tile_call::{check_ask, check_run};
-use common::{call, cutting};
+use crate::common::case::{Case, Tensor};
+use crate::common::groups::{Group, Groups};
+use crate::common::json::Json;
+use crate::common::request::Request;
+use crate::common::tile_call::{check_ask, check_run};
+use crate::common::{call, cutting};
 use nezgrak::{OutputIndex, TileSizes};
 
-const VECTORS: &str = include_str!("data/vectors.json");
+const VECTORS: &str = include_str!("../data/vectors.json");
 
 fn tensor(vector: &Json, name: &str, count: &str, word: fn(u32) -> u32) -> Tensor {
     let [letters, extents, strides, base] = vector.field(name).list() else {

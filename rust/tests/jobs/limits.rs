@@ -1,12 +1,10 @@
 //! Job files at their limits, and one past them: ranks, counts of words, the numbers of `GO`, and the largest jobs.
 
-mod common;
-
-use common::case::{Case, Tensor};
-use common::formula::contraction;
-use common::job::Job;
-use common::job_model::{answer, refused};
-use common::program::{check, prints, run, same};
+use crate::common::case::{Case, Tensor};
+use crate::common::formula::contraction;
+use crate::common::job::Job;
+use crate::common::job_model::{answer, refused};
+use crate::common::program::{check, prints, run, same};
 use std::time::Duration;
 
 fn job(case: Case, sizes: [u16; 3]) -> Job {

@@ -1,15 +1,13 @@
 //! What only the words of a layout can say: letters above 255, counts of any size, and words past the counts.
 
-mod common;
-
-use common::broken::sound_request;
-use common::case::{same_words, Case, Outcome, Tensor};
-use common::direct;
-use common::lent::words_of;
-use common::make::{accepted, Kind};
-use common::panels;
-use common::request::Request;
-use common::rng::Rng;
+use crate::common::broken::sound_request;
+use crate::common::case::{same_words, Case, Outcome, Tensor};
+use crate::common::direct;
+use crate::common::lent::words_of;
+use crate::common::make::{accepted, Kind};
+use crate::common::panels;
+use crate::common::request::Request;
+use crate::common::rng::Rng;
 use nezgrak::{Contraction, Layout, Refusal};
 
 const KIND: Kind = Kind { labels: 5, extents: &[1, 2, 3], terms: 60, aligned: false };

@@ -1,12 +1,10 @@
 //! Job files whose records stand in another order, are missing or have other marks, and files that go on after `GO`.
 
-mod common;
-
-use common::case::{Case, Tensor};
-use common::flaws::Records;
-use common::job::Job;
-use common::job_model::refused;
-use common::program::{check_all, prints, refuse};
+use crate::common::case::{Case, Tensor};
+use crate::common::flaws::Records;
+use crate::common::job::Job;
+use crate::common::job_model::refused;
+use crate::common::program::{check_all, prints, refuse};
 
 /// The records of a job of single words, B's written as a byte.
 fn scalars() -> Records {

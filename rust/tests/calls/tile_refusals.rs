@@ -1,11 +1,9 @@
 //! Every refusal of a tile call and of a state question, alone and two together. Each is made under guard: no lent word
 //! may change, a refused tile call gives the count back, and a refused question leaves the state as it was.
 
-mod common;
-
-use common::broken::{sound_request, ways, Break};
-use common::request::{Ran, Request};
-use common::tile_call::{check_ask, check_run, same};
+use crate::common::broken::{sound_request, ways, Break};
+use crate::common::request::{Ran, Request};
+use crate::common::tile_call::{check_ask, check_run, same};
 
 const OF_TILES: [u32; 12] = [1, 2, 3, 4, 5, 6, 7, 8, 9, 10, 11, 12];
 const OF_STATE: [u32; 12] = [1, 2, 3, 4, 5, 6, 7, 8, 9, 10, 12, 13];

@@ -1,13 +1,11 @@
 //! Job files that end too early, cut at every byte.
 
-mod common;
-
-use common::broken::sound_request;
-use common::case::{Case, Tensor};
-use common::flaws::{flaws, Flaw};
-use common::job::Job;
-use common::job_model::refused;
-use common::program::{check, check_all};
+use crate::common::broken::sound_request;
+use crate::common::case::{Case, Tensor};
+use crate::common::flaws::{flaws, Flaw};
+use crate::common::job::Job;
+use crate::common::job_model::refused;
+use crate::common::program::{check, check_all};
 
 /// A file cut before each of its bytes.
 fn cut(file: &[u8]) -> Vec<Vec<u8>> {

@@ -1,11 +1,9 @@
 //! The small cases that the rules list. Those that are proved there are also theorems of the definitions; here the archive
 //! runs them, by the plain call and by tile calls.
 
-mod common;
-
-use common::case::{Case, Tensor};
-use common::list::List;
-use common::{call, cutting};
+use crate::common::case::{Case, Tensor};
+use crate::common::list::List;
+use crate::common::{call, cutting};
 use nezgrak::TileSizes;
 
 fn gives(case: &Case, words: &[u32]) {

@@ -5,16 +5,14 @@
 //! have no stride of 0, so that question 8 refuses a larger extent, where 6 does not. A stride that becomes 0 goes with
 //! extents as they were. Random edits can make long sums; those files, few, are left out.
 
-mod common;
-
-use common::case::{Case, Tensor};
-use common::job::Job;
-use common::job_make::accepted_job;
-use common::job_model::{is_long, refused};
-use common::make::Kind;
-use common::program::check_all;
-use common::rng::Rng;
-use common::seen::Seen;
+use crate::common::case::{Case, Tensor};
+use crate::common::job::Job;
+use crate::common::job_make::accepted_job;
+use crate::common::job_model::{is_long, refused};
+use crate::common::make::Kind;
+use crate::common::program::check_all;
+use crate::common::rng::Rng;
+use crate::common::seen::Seen;
 
 /// A(k) × B(k) into each of D's two words, which have another between them: four tiles, of which the second and the
 /// third run.

@@ -1,9 +1,7 @@
 //! Each limit exactly, and one past it.
 
-mod common;
-
-use common::call::{check, gives, refuses, run};
-use common::case::{Case, Tensor};
+use crate::common::call::{check, gives, refuses, run};
+use crate::common::case::{Case, Tensor};
 
 const LIMIT: usize = 16_777_216;
 

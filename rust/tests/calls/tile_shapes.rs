@@ -1,13 +1,11 @@
 //! Blocks of every sort: even ones, up, down and with step 0, scattered ones, and labels that fold or do not.
 
-mod common;
-
-use common::case::{Case, Tensor};
-use common::cutting::{run_in, SIZES};
-use common::formula::{contraction, reverse};
-use common::groups::Groups;
-use common::list::List;
-use common::rng::Rng;
+use crate::common::case::{Case, Tensor};
+use crate::common::cutting::{run_in, SIZES};
+use crate::common::formula::{contraction, reverse};
+use crate::common::groups::Groups;
+use crate::common::list::List;
+use crate::common::rng::Rng;
 use nezgrak::TileSizes;
 
 /// All tiles, in one call and in several; and the last half of the tiles, on words as they are given.

@@ -1,14 +1,12 @@
 //! How the job program takes its file: as an argument, or at standard input where there is none.
 
-mod common;
-
-use common::job::Job;
-use common::job_make::accepted_job;
-use common::job_model::answer;
-use common::make::Kind;
-use common::program::{run, same};
-use common::rng::Rng;
-use common::temp_file::TempFile;
+use crate::common::job::Job;
+use crate::common::job_make::accepted_job;
+use crate::common::job_model::answer;
+use crate::common::make::Kind;
+use crate::common::program::{run, same};
+use crate::common::rng::Rng;
+use crate::common::temp_file::TempFile;
 use std::ffi::OsStr;
 use std::fs;
 use std::path::Path;

@@ -2,12 +2,10 @@
 //! and strides, the program's work slice is long enough for every tile, and no state is asked, so 2, 11 and 13 can't
 //! occur.
 
-mod common;
-
-use common::broken::{sound_request, ways, Break};
-use common::job::Job;
-use common::job_model::refused;
-use common::program::{check, prints, refuse};
+use crate::common::broken::{sound_request, ways, Break};
+use crate::common::job::Job;
+use crate::common::job_model::refused;
+use crate::common::program::{check, prints, refuse};
 
 const NUMBERS: [u32; 10] = [1, 3, 4, 5, 6, 7, 8, 9, 10, 12];
 

@@ -1,10 +1,8 @@
 //! Every refusal alone and every two together. Each call is made under guard, and no lent word may change.
 
-mod common;
-
-use common::broken::{edits, sound, tensors_of};
-use common::call::{check, refuses};
-use common::case::Case;
+use crate::common::broken::{edits, sound, tensors_of};
+use crate::common::call::{check, refuses};
+use crate::common::case::Case;
 
 /// The sound contraction with one question broken for one tensor, in one way.
 fn broken(mut case: Case, number: u32, which: usize, edit: usize) -> Case {

@@ -1,17 +1,15 @@
 //! Random jobs against the model: contractions of every sort, from any count of tiles done and with any budget, their
 //! words written as words or as bytes; then ones of which most are spoilt.
 
-mod common;
-
-use common::groups::{Cut, Groups};
-use common::job::Job;
-use common::job_make::{accepted_job, job_of};
-use common::job_model::{read, refused};
-use common::make::{accepted, spoil, Kind};
-use common::notes::{note_factors, note_labels, note_strides};
-use common::program::check_all;
-use common::rng::Rng;
-use common::seen::Seen;
+use crate::common::groups::{Cut, Groups};
+use crate::common::job::Job;
+use crate::common::job_make::{accepted_job, job_of};
+use crate::common::job_model::{read, refused};
+use crate::common::make::{accepted, spoil, Kind};
+use crate::common::notes::{note_factors, note_labels, note_strides};
+use crate::common::program::check_all;
+use crate::common::rng::Rng;
+use crate::common::seen::Seen;
 
 const TURNS: usize = 1_000;
 

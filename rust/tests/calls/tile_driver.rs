@@ -1,15 +1,13 @@
 //! The driver over tile calls: what it yields, what it lets be read in between, and what it refuses.
 
-mod common;
-
-use common::broken::{sound_request, ways};
-use common::case::Case;
-use common::groups::{Cut, Groups};
-use common::lent::layout_of;
-use common::make::{accepted, Kind};
-use common::panels::Model;
-use common::request::Request;
-use common::rng::Rng;
+use crate::common::broken::{sound_request, ways};
+use crate::common::case::Case;
+use crate::common::groups::{Cut, Groups};
+use crate::common::lent::layout_of;
+use crate::common::make::{accepted, Kind};
+use crate::common::panels::Model;
+use crate::common::request::Request;
+use crate::common::rng::Rng;
 use nezgrak::{Contraction, OutputIndex, Progress, Refusal, State, Tensor, TileSizes, Tiles};
 
 const KIND: Kind = Kind { labels: 6, extents: &[1, 2, 3, 5, 8], terms: 800, aligned: false };

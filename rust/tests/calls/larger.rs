@@ -1,12 +1,10 @@
 //! Larger contractions against the model, each with packed tensors and random words: by the plain call, and by tile
 //! calls with tiles of three sizes.
 
-mod common;
-
-use common::call::check;
-use common::case::{same_words, Case};
-use common::cutting::run_in;
-use common::formula::{contraction, reverse};
+use crate::common::call::check;
+use crate::common::case::{same_words, Case};
+use crate::common::cutting::run_in;
+use crate::common::formula::{contraction, reverse};
 use nezgrak::TileSizes;
 
 fn accepts(case: &Case) {

@@ -1,16 +1,14 @@
 //! Random lists of tile calls and state questions against the model: every answer and every word after each call.
 
-mod common;
-
-use common::call;
-use common::case::{same_words, Case, Tensor};
-use common::groups::{Cut, Group, Groups};
-use common::list::List;
-use common::make::{accepted, spoil, Kind};
-use common::request::{work_needed, Request};
-use common::rng::Rng;
-use common::seen::Seen;
-use common::tile_call::{check_ask, check_run};
+use crate::common::call;
+use crate::common::case::{same_words, Case, Tensor};
+use crate::common::groups::{Cut, Group, Groups};
+use crate::common::list::List;
+use crate::common::make::{accepted, spoil, Kind};
+use crate::common::request::{work_needed, Request};
+use crate::common::rng::Rng;
+use crate::common::seen::Seen;
+use crate::common::tile_call::{check_ask, check_run};
 use nezgrak::{OutputIndex, TileSizes};
 
 const TURNS: usize = 2_000;

@@ -1,12 +1,10 @@
 //! Random contractions against the model: 32,000 from fixed seeds, a third of them spoilt by an edit.
 
-mod common;
-
-use common::call::check;
-use common::make::{accepted, spoil, Kind};
-use common::notes::{note_factors, note_labels, note_strides};
-use common::rng::Rng;
-use common::seen::Seen;
+use crate::common::call::check;
+use crate::common::make::{accepted, spoil, Kind};
+use crate::common::notes::{note_factors, note_labels, note_strides};
+use crate::common::rng::Rng;
+use crate::common::seen::Seen;
 
 const TURNS: usize = 8_000;
 

@@ -1,0 +1,16 @@
+//! The calls of the archive: plain calls, tile calls and state questions, by their safe forms and by their pointers.
+
+#[path = "../common/mod.rs"]
+mod common;
+mod edges;
+mod larger;
+mod layout_words;
+mod limits;
+mod random;
+mod refusals;
+mod tile_driver;
+mod tile_limits;
+mod tile_lists;
+mod tile_refusals;
+mod tile_shapes;
+mod vectors;

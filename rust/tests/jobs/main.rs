@@ -1,0 +1,13 @@
+//! The job program: what it prints for a job file, accepted or refused, and how it takes the file.
+
+mod changes;
+#[path = "../common/mod.rs"]
+mod common;
+mod cuts;
+mod example;
+mod files;
+mod limits;
+mod random;
+mod reading;
+mod records;
+mod refusals;
