@@ -6,17 +6,14 @@ use std::collections::BTreeMap;
 use std::ffi::OsStr;
 use std::io::{ErrorKind, Write};
 use std::panic::resume_unwind;
-use std::path::{Path, PathBuf};
+use std::path::PathBuf;
 use std::process::{ChildStdin, Command, Stdio};
-use std::sync::{Mutex, Once, OnceLock};
+use std::sync::{Mutex, Once};
 use std::time::{Duration, Instant};
 use std::{env, thread};
 
 /// A run that takes longer has failed.
 const LIMIT: Duration = Duration::from_secs(20);
-
-/// So many bytes fit into a pipe: writing them does not wait for a reader.
-const PIPE: usize = 4_096;
 
 /// What a run printed, whether its exit status was 0, and how long it took.
 pub struct Printed {
@@ -26,16 +23,13 @@ pub struct Printed {
     pub time: Duration,
 }
 
-fn path() -> &'static Path {
-    static PATH: OnceLock<PathBuf> = OnceLock::new();
-    PATH.get_or_init(|| {
-        let path = match env::var_os("NEZGRAK_JOB") {
-            Some(named) => PathBuf::from(named),
-            None => PathBuf::from(env!("CARGO_MANIFEST_DIR")).join("../target/bin/nezgrak_job"),
-        };
-        assert!(path.is_file(), "{} is missing: `rt check nezgrak_job`, in the repository, makes it", path.display());
-        path
-    })
+fn path() -> PathBuf {
+    let path = match env::var_os("NEZGRAK_JOB") {
+        Some(named) => PathBuf::from(named),
+        None => PathBuf::from(env!("CARGO_MANIFEST_DIR")).join("../target/bin/nezgrak_job"),
+    };
+    assert!(path.is_file(), "{} is missing: `rt check nezgrak_job`, in the repository, makes it", path.display());
+    path
 }
 
 /// Runs the program with these arguments, and with these pieces at standard input, one after the other.
@@ -47,11 +41,7 @@ pub fn run(arguments: &[&OsStr], pieces: &[&[u8]]) -> Printed {
     let mut child = command.spawn().unwrap_or_else(|error| panic!("{}: {error}", path().display()));
     let (watched, input) = (Watched::new(child.id()), child.stdin.take().expect("a pipe"));
     let output = thread::scope(|scope| {
-        if pieces.iter().map(|piece| piece.len()).sum::<usize>() <= PIPE {
-            write(input, pieces);
-        } else {
-            scope.spawn(|| write(input, pieces));
-        }
+        scope.spawn(|| write(input, pieces));
         child.wait_with_output().expect("what the program printed")
     });
     drop(watched);
