@@ -2,7 +2,7 @@ ghost use mathlib.Core.Path.{_≡_};
 ghost use Rattle.answers.specs.PlainAnswer.{plainAnswer};
 ghost use Rattle.answers.specs.FlatPlain.{plainStatus};
 
-// What a call answers: done, or the number of the question that refused.
+// What a plain call answers: done, or the number of the question that refused.
 pub enum Outcome {
     Done,
     Refused(u32),

@@ -16,6 +16,8 @@ unfolding axesOf layoutOf axes rankFits countsMatch lettersValid extentsValid st
 question-cases =
     record {
       accepted = refl;
+      each-3 = refl;
+      each-8 = refl;
       base-5 = refl;
       agree-6 = refl;
       points-7 = refl;

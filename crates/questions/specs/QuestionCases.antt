@@ -1,4 +1,5 @@
--- The numbers of questions 5 to 9 and their order: each row fails a question and the next one too, and the first of the two answers.
+-- The numbers of questions 5 to 9 and their order: each row fails a question and the next one too, and the first of the two answers. Before them stands
+-- which tensors are asked.
 -- Assumes nothing.
 use Prim.Native.Nat.{ℕ}
 use mathlib.Core.Path.{_≡_}
@@ -15,12 +16,18 @@ use Rattle.questions.specs.Questions.{layoutQuestions}
 abbrev pub scalar : Layout
 scalar = layoutOf [] [] [] 0
 
--- the answer where A has this layout and a slice of n words, and where D has
+-- the answer where A has this layout and a slice of n words, where B has, and where D has
 abbrev ofA : Layout → ℕ → ℕ
 ofA l n = refusal (layoutQuestions (three l scalar scalar) (three n 1 1))
 
+abbrev ofB : Layout → ℕ → ℕ
+ofB l n = refusal (layoutQuestions (three scalar l scalar) (three 1 n 1))
+
 abbrev ofD : Layout → ℕ → ℕ
 ofD l n = refusal (layoutQuestions (three scalar scalar l) (three 1 1 n))
+
+abbrev ofEach : Layout → ℕ → List ℕ
+ofEach l n = ofA l n ∷ ofB l n ∷ ofD l n ∷ []
 
 -- two strides of 1, and one of 0
 abbrev ones : List ℤ
@@ -31,6 +38,9 @@ still = pos 0 ∷ []
 
 pub record QuestionCases : Type 0 where
   pub accepted : ofA (layoutOf (codes "ij") (2 ∷ 3 ∷ []) ones 0) 4 ≡ 0
+  -- 1 to 5 and 8 are put to A, to B and to D: a digit as a letter, and a slice without words
+  pub each-3 : ofEach (layoutOf (codes "1") (1 ∷ []) still 0) 1 ≡ 3 ∷ 3 ∷ 3 ∷ []
+  pub each-8 : ofEach (layoutOf (codes "i") (1 ∷ []) still 0) 0 ≡ 8 ∷ 8 ∷ 8 ∷ []
   pub base-5 : ofA (layoutOf (codes "ii") (2 ∷ 3 ∷ []) ones 16777217) 1 ≡ 5  -- a base too large, two extents of one letter
   pub agree-6 : ofA (layoutOf (codes "iij") (32768 ∷ 3 ∷ 65536 ∷ []) (pos 0 ∷ ones) 0) 1 ≡ 6  -- two extents of one letter, too many points
   pub points-7 : ofA (layoutOf (codes "ij") (32768 ∷ 32769 ∷ []) ones 0) 1 ≡ 7  -- too many points, entries outside
