@@ -11,7 +11,8 @@ extern "C" {
 
 /* A tensor is a slice of words that the caller lends, with a layout: up to 8 letters (its labels), an extent and a signed stride
  * for each, and a base. The entry at index (i, j, ..) is the word at base + i * stride + j * stride' + .. of the slice. A letter
- * that a tensor repeats is one label whose stride is the sum of its strides. No letters means one entry, at the base.
+ * that a tensor repeats is one label whose stride is the sum of its strides. No letters means one entry, at the base;
+ * with an extent 0 there are no entries.
  *
  * Any 28 words can be handed in, and a call asks its questions of them. Words past a count mean nothing. The three counts of a
  * sound layout are equal (question 2) and at most 8 (question 1). A letter is its ASCII code; a word above 255 is read as letter 0,
@@ -60,8 +61,9 @@ static inline nezgrak_layout nezgrak_layout_scalar(uint32_t base)
  *
  *     alpha * (sum, over every label that D lacks, of A's entry * B's entry) + beta * old word    modulo 2^32.
  *
- * A tensor that lacks a label has the same entry at each of its values. The words of D that its layout does not address keep
- * their values. A, B and the layouts are only read.
+ * A tensor that lacks a label has the same entry at each of its values. A sum over no values is 0: where a label that D lacks has
+ * extent 0, each word becomes beta * old word. The words of D that its layout does not address keep their values, all of them where
+ * D has an extent 0. A, B and the layouts are only read.
  *
  * Returns 0, or the number of the first question whose answer is no. D is then unchanged. Each question is put to A, B and D
  * before the next one is asked:
@@ -69,7 +71,7 @@ static inline nezgrak_layout nezgrak_layout_scalar(uint32_t base)
  *     1  Has each tensor at most 8 letters?
  *     2  Are there as many extents and as many strides as letters?
  *     3  Is every letter A to Z or a to z?
- *     4  Is every extent 1 to 65,536?
+ *     4  Is every extent 0 to 65,536?
  *     5  Is every stride from -16,777,216 to 16,777,216, every base at most 16,777,216, every tensor's slice at most
  *        16,777,216 words?
  *     6  Has a letter the same extent wherever it occurs?
@@ -77,6 +79,9 @@ static inline nezgrak_layout nezgrak_layout_scalar(uint32_t base)
  *     8  Does every entry of A, B and D fall inside its slice?
  *     9  For each D label of extent above 1, does its stride's size exceed the sum of (extent - 1) * stride size over the
  *        other D labels whose stride size is no greater? (Strides summed per letter.)
+ *
+ * In the product of question 7 an extent 0 counts as 1. A tensor with an extent 0 has no entries: it passes 8 whatever its slice and
+ * base, and as D passes 9.
  *
  * The caller has to see to this, and to nothing else:
  *
@@ -98,10 +103,10 @@ uint32_t nezgrak_contract(
  * counts through the values of its labels, the first label fastest, up to its size, the product of their extents.
  *
  * A tile is rows * cols * depth counts of the row, column and depth group, fewer at the edge. With MB, NB and KB the sizes of these
- * groups divided by the tile's and rounded up, the tile of batch count h, column block c, panel p and row block r has the number
- * ((h * NB + c) * KB + p) * MB + r; the total is batch size * NB * KB * MB. Tiles run in the order of their numbers. Panel 0 puts
- * beta * old word + alpha * its part of the sum, later panels add alpha * their part: after the last tile D is what
- * nezgrak_contract leaves.
+ * groups divided by the tile's and rounded up, but KB 1 where the depth size is 0, the tile of batch count h, column block c, panel
+ * p and row block r has the number ((h * NB + c) * KB + p) * MB + r; the total is batch size * NB * KB * MB, and so 0 where D has an
+ * extent 0. Tiles run in the order of their numbers. Panel 0 puts beta * old word + alpha * its part of the sum, later panels add
+ * alpha * their part: after the last tile D is what nezgrak_contract leaves.
  *
  * `done` is the count of tiles done before, 0 for a new contraction. Between calls everything but the budget and work stays the
  * same. *done_after becomes the new count, and *complete 1 where that is the total, else 0.

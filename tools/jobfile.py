@@ -25,8 +25,8 @@ numbers   are decimal or 0x..; N*COUNT is COUNT times N. Strides are signed. Wor
           from -2147483648 (two's complement).
 lines     # starts a comment; blank lines are skipped; an indented line goes on with the statement above it.
 
-Only the form is checked. What the engine refuses, such as an extent of 0 or strides that overlap, goes into the job
-file as it is written.
+Only the form is checked. What the engine refuses, such as an extent of 65537 or output strides that overlap, goes into
+the job file as it is written.
 """
 
 import itertools

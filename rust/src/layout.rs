@@ -37,7 +37,7 @@ pub struct Layout {
 }
 
 impl Layout {
-    /// The layout with these axes and this base: letters `A` to `Z` and `a` to `z`, extents 1 to 65,536, strides
+    /// The layout with these axes and this base: letters `A` to `Z` and `a` to `z`, extents 0 to 65,536, strides
     /// -16,777,216 to 16,777,216, as many of each, and a base up to 16,777,216.
     ///
     /// A tensor has at most 8 letters. Of more of a kind their count is kept, so that a call refuses the layout.

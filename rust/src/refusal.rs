@@ -41,7 +41,7 @@ impl Refusal {
             1 => "a tensor has more than 8 letters",
             2 => "there are not as many extents and as many strides as letters",
             3 => "a letter is not A to Z or a to z",
-            4 => "an extent is not 1 to 65,536",
+            4 => "an extent is not 0 to 65,536",
             5 => {
                 "a stride is not from -16,777,216 to 16,777,216, a base is above 16,777,216, \
                  or a tensor's slice has more than 16,777,216 words"

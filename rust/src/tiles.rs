@@ -57,7 +57,8 @@ impl<'a> Contraction<'a> {
 }
 
 impl Tiles<'_> {
-    /// No total is larger: there are no more tiles than terms, and question 7 limits those.
+    /// No total is larger: there are no more tiles than the product that question 7 limits, in which an extent 0 counts as
+    /// 1, as a depth of size 0 counts as one panel.
     const MOST: u64 = 1_073_741_824;
 
     /// The same, with this many tiles for each [`next`](Iterator::next). With a budget of 0 no tile would ever run, so

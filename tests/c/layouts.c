@@ -106,7 +106,7 @@ static void check_letters(void)
     check("3: a letter above 255 is not its low byte", each(raise_letter, 256, 3) && each(raise_letter, 1u << 31, 3));
     matrices m = two_by_two();
     m.b.letters[0] += 256;
-    m.a.extents[0] = 0;
+    m.a.extents[0] = 65537;
     check("3 of B before 4 of A", answer(&m, product) == 3);
     m.d.stride_count = 1;
     check("2 of D before 3 of B", answer(&m, product) == 2);

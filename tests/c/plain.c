@@ -72,9 +72,30 @@ static void check_results(void)
     check("a repeated letter of D is its diagonal", answers(c, 0, (const uint32_t[]){206, 200, 300, 806}));
 }
 
+/* Extents of 0: k in A and B, so that no term is left, and i in A and D, so that D has no entries. */
+static void check_empty_layers(void)
+{
+    contraction c = product();
+    c.m.a.extents[1] = c.m.b.extents[0] = 0;
+    check("a sum over no values is 0", answers(c, 0, (const uint32_t[]){200, 400, 600, 800}));
+    c.m.a.base = c.m.b.base = 16777216;
+    check("no entry of A and B can be outside", answers(c, 0, (const uint32_t[]){200, 400, 600, 800}));
+    c.m.b.base++;
+    refused("5: a base, also without entries", c, 5);
+    c = product();
+    c.m.a.extents[0] = c.m.d.extents[0] = 0;
+    c.m.d.strides[0] = c.m.d.strides[1] = 0;
+    c.d_count = 0;
+    check("no entry of D: strides of 0 and no words pass, and nothing changes", answers(c, 0, c.m.d_words + GUARD));
+    c.m.b.extents[1] = c.m.d.extents[1] = 3;
+    refused("8: B has entries beside tensors without", c, 8);
+    c.m.d.extents[0] = 1;
+    refused("6: an extent of 0 and one of 1", c, 6);
+}
+
 static void check_refusals(void)
 {
-    static const uint32_t ones[9] = {1, 1, 1, 1, 1, 1, 1, 1, 1}, zero[2] = {2, 0}, large[3] = {32768, 32769, 1};
+    static const uint32_t ones[9] = {1, 1, 1, 1, 1, 1, 1, 1, 1}, past[2] = {2, 65537}, large[3] = {32768, 32769, 1};
     static const int32_t zeros[9] = {0};
     contraction c = product();
     c.m.d.strides[1] = 1;
@@ -87,10 +108,10 @@ static void check_refusals(void)
     refused("6: a letter with two extents", c, 6);
     c.m.b.strides[1] = 16777217;
     refused("5: a stride's size", c, 5);
-    c.m.a = nezgrak_layout_of("xy", zero, zeros, 2, 0);
-    refused("4: an extent of 0", c, 4);
+    c.m.a = nezgrak_layout_of("xy", past, zeros, 2, 0);
+    refused("4: an extent of 65,537", c, 4);
     c.m.b.letters[1] = '1';
-    refused("3: not a letter, of B where A's extent is 0", c, 3);
+    refused("3: not a letter, of B where A's extent is 65,537", c, 3);
     c.m.d.stride_count = 1;
     refused("2: fewer strides than letters", c, 2);
     c.m.a = nezgrak_layout_of("abcdefghi", ones, zeros, 9, 0);
@@ -101,6 +122,7 @@ int main(void)
 {
     check_one_axis();
     check_results();
+    check_empty_layers();
     check_refusals();
     return failed != 0;
 }

@@ -139,6 +139,38 @@ static void check_states(void)
     check("the state of each word after each tile", hold);
 }
 
+/* k of extent 0 in A and B: one panel with no terms, four tiles of one word each. */
+static void check_no_terms(void)
+{
+    contraction c = product();
+    c.m.a.extents[1] = c.m.b.extents[0] = 0;
+    const uint32_t three[] = {200, 400, 600, 400}, all[] = {200, 400, 600, 800}, zeros[] = {0, 0, 0, 0, 54, 55};
+    c.budget = 3;
+    check("three tiles with no terms: beta * old, and blocks of zeros", runs(c, 3, 0, three, zeros));
+    c.budget = 4;
+    check("all four tiles with no terms", runs(c, 4, 1, all, zeros));
+    c.done = 3;
+    contraction before = c, after = c;
+    before.row = after.row = before.column = after.column = 1;
+    after.done = 4;
+    check("with no terms a word is old and then final", ask(&before) == 0 && before.state == NEZGRAK_OLD && ask(&after) == 0 && after.state == NEZGRAK_FINAL);
+    c.done = 5;
+    refused("12: five of four tiles with no terms", c, 12);
+}
+
+/* i of extent 0 in A and D: no tiles. */
+static void check_no_tiles(void)
+{
+    contraction c = product();
+    c.m.a.extents[0] = c.m.d.extents[0] = 0;
+    const uint32_t old[] = {100, 200, 300, 400}, unchanged[] = {50, 51, 52, 53, 54, 55};
+    check("no tiles: complete at once, and nothing changes", runs(c, 0, 1, old, unchanged));
+    not_asked("13: no output index where there are no tiles", c, 13);
+    c.done = 1;
+    refused("12: one tile done where there are none", c, 12);
+    not_asked("12: also of a state where there are no tiles", c, 12);
+}
+
 static void check_refusals(void)
 {
     contraction c = product();
@@ -164,6 +196,8 @@ int main(void)
     check_calls();
     check_uneven();
     check_states();
+    check_no_terms();
+    check_no_tiles();
     check_refusals();
     return failed != 0;
 }

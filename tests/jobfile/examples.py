@@ -6,7 +6,7 @@ from checking import expect
 from running import ROOT, contents
 
 JOBS = os.path.join(ROOT, "examples", "jobs")
-EXAMPLES = ["bat_call", "diagonal", "matrix", "matrix_three_tiles", "refused", "reversed"]
+EXAMPLES = ["bat_call", "diagonal", "empty_layer", "matrix", "matrix_three_tiles", "refused", "reversed"]
 
 
 def check_examples(bench):

@@ -3,7 +3,7 @@
 import random
 
 from checking import expect
-from files import byte_words, go, layout, words
+from files import byte_words, go, job_with, layout, words
 from running import brief
 
 
@@ -44,3 +44,29 @@ def check_round_trips(bench):
     made = bench.process("make", "-", "-", input=shown).stdout
     expect(made == largest, "show, then make changes the largest job file")
     yield "the largest job file: show, then make"
+
+
+EMPTY_ROWS = {"A_layout": layout(b"A", b"ik", [0, 3], [1, 2], 50), "D_layout": layout(b"D", b"ij", [0, 2], [0, 0], 99)}
+NO_TERMS = {
+    "A_layout": layout(b"A", b"ik", [2, 0], [1, 2]),
+    "A_words": words(b"A", []),
+    "B_layout": layout(b"B", b"kj", [0, 2], [0, 0]),
+    "go": go(1, 3, 1, 1, 2, 0, 3),
+}
+# A title, the records that are others than those of GOOD, and the program's answer.
+EMPTY_LAYERS = [
+    ("no entries in the output", EMPTY_ROWS, "tiles 0 of 0\n100 -\n200 -\n300 -\n400 -\n"),
+    ("an output without words", {**EMPTY_ROWS, "D_words": byte_words(b"D", [])}, "tiles 0 of 0\n"),
+    ("sums over no values", NO_TERMS, "tiles 3 of 4\n300 f\n600 f\n900 f\n400 o\n"),
+]
+
+
+def check_empty_layers(bench):
+    """Labels of extent 0 are written, shown and run as any others."""
+    for title, records, answer in EMPTY_LAYERS:
+        job = job_with(**records)
+        text = bench.process("show", "-", input=job).stdout
+        expect(bench.process("make", "-", "-", input=text).stdout == job, title, "is shown as", text)
+        ran = bench.process("run", "-", "--program", bench.program, input=text)
+        expect(ran.stdout.decode() == answer, title, "runs to", ran.stdout, ran.stderr)
+        yield f"an empty layer, {title}: show, then make and run"

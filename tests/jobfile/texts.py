@@ -143,6 +143,11 @@ GOOD_TEXTS = [
         job_with(D_layout=layout(b"D", b"ij", [0, 65537], [0, 0], 99)),
     ),
     (
+        "an empty layer",
+        changed(5, "layout D ij extents 0 2 strides 0 0 base 99"),
+        job_with(D_layout=layout(b"D", b"ij", [0, 2], [0, 0], 99)),
+    ),
+    (
         "comments, blank and indented lines",
         changed(6, "words D 100 # x\n\n\t200#y\n# z\n  300\n\n   \n 400 # \u00e9") + "\n# end\n",
         job_with(),

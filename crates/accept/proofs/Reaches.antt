@@ -5,6 +5,7 @@ use mathlib.Core.Path.{_≡_, sym, ap, _∙_}
 use mathlib.Core.Bool.{true}
 use mathlib.Core.List.{List, [], _∷_}
 use Prim.Native.Nat.{ℕ, _+_, _*_, _≤_, _<_, max}
+use native.Mathlib.Nat.{mul-le-mul}
 use native.Mathlib.Omega.{arith}
 use borrow.Author.Tests.{leb-true}
 use Rattle.words.specs.Sums.{All, sumOf}
@@ -19,6 +20,8 @@ use Rattle.contraction.specs.Operands.{Operand, A, B, D, tensors, together}
 use Rattle.questions.proofs.Ready.{AllPassed}
 use Rattle.groups.specs.Groups.{Label, Group, batch, row, column, depth, group, size}
 use Rattle.groups.specs.Held.{labelsIn}
+use Rattle.groups.specs.Foldable.{pointsIn}
+use Rattle.groups.proofs.Points.{size-counted}
 use Rattle.offsets.specs.Counts.{offsetIn}
 use Rattle.offsets.specs.Offsets.{wordsIn}
 use Rattle.folding.proofs.FoldKeeps.{fold-size}
@@ -29,7 +32,7 @@ use Rattle.meaning.proofs.OwnGroups.{groupCounts, groupsOf, groupsAt}
 use Rattle.plan.specs.declared.plan.Plan.{Plan}
 use Rattle.plan.specs.Plan.{Planned, planned}
 use Rattle.plan.proofs.GroupsFoldable.{group-foldable, fold-foldable}
-use Rattle.plan.proofs.GroupSizes.{group-sizes, group-size-pos}
+use Rattle.plan.proofs.GroupSizes.{group-points}
 use Rattle.plan.proofs.Reached.{index-inside, reached-index}
 use Rattle.tiles.specs.declared.grid.Sizes.{Sizes}
 use Rattle.tile_blocks.specs.Side.{Side, left, right, both, tensorOn, groupOn, sizeOn}
@@ -58,10 +61,16 @@ module _ (c : Contraction) (n : Operand → ℕ) (ok : AllPassed (tensors c) n) 
   points-fit : max 1 (size (labelsIn (planned p batch))) * max 1 (size (labelsIn (planned p row))) * max 1 (size (labelsIn (planned p column)))
       * max 1 (size (labelsIn (planned p depth))) ≤ productLimit
   unfolding pointsFit
-  points-fit = rw (same batch, same row, same column, same depth, group-sizes (shapeIn c)) (leb-true (points (together (shapeIn c))) productLimit (ok .fit))
+  points-fit =
+      omega (
+        arith,
+        mul-le-mul (mul-le-mul (mul-le-mul (counted batch) (counted row)) (counted column)) (counted depth),
+        group-points (shapeIn c),
+        leb-true (points (together (shapeIn c))) productLimit (ok .fit),
+      )
     where
-      same : (g : Group) → max 1 (size (labelsIn (planned p g))) ≡ size (group (shapeIn c) g)
-      same g = omega (arith, plan-size g, group-size-pos (tensors c) n ok g)
+      counted : (g : Group) → max 1 (size (labelsIn (planned p g))) ≤ pointsIn (group (shapeIn c) g)
+      counted g = rw (plan-size g) (size-counted (group (shapeIn c) g))
 
   pub plan-fits : (z : Sizes) → sizesFit z ≡ true → PlanFits p z
   plan-fits z f =

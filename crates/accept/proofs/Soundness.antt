@@ -45,7 +45,7 @@ setting-same c z v w e f = λ x. settingBy (cutOf c z) (addressAt c) (on left (e
     on s words h m k = getD words (address (tensors c (tensorOn s)) (index (shapeIn c) ((depth, k) ∷ (batch, h) ∷ (groupOn s, m) ∷ []))) 0
 
 -- the index of a batch, a row and a column count, and its parts
-abbrev at : Contraction → ℕ → ℕ → ℕ → ℕ → ℕ
+abbrev pub at : Contraction → ℕ → ℕ → ℕ → ℕ → ℕ
 at c h i j = index (shapeIn c) ((batch, h) ∷ (row, i) ∷ (column, j) ∷ [])
 
 abbrev parts : Contraction → ℕ → ℕ → ℕ → List Part
@@ -70,7 +70,7 @@ module _ (c : Contraction) (z : Sizes) (w : Slices) (ok : AllPassed (tensors c) 
     unfolding group
     below = (ix .0, (ix .1, (ix .2, tt)))
 
-    at-in-range : InRange (axes (tensors c D)) (at c h i j)
+    pub at-in-range : InRange (axes (tensors c D)) (at c h i j)
     unfolding index group
     at-in-range = parts-in-range (shapeIn c) (rw (ok .agree) tt) D (parts c h i j) below (own-cover (shapeIn c) (groupCounts h i j 0) D)
 

@@ -11,7 +11,7 @@ use Rattle.layout.specs.Layout.{axes, axesOf, layoutOf, address}
 use Rattle.validity.specs.TensorQuestions.{rankFits, countsMatch, lettersValid, extentsValid, stridesValid, sizesValid}
 use Rattle.labels.specs.Labels.{labels}
 use Rattle.points.specs.LabelQuestions.{extentsAgree, points, pointsFit}
-use Rattle.entries.specs.EntryQuestions.{span, inside, below, apart}
+use Rattle.entries.specs.EntryQuestions.{hasEntries, span, inside, below, stridesApart, apart}
 use Rattle.contraction.specs.declared.contraction.Contraction.{Contraction}
 use Rattle.contraction.specs.Operands.{three, contractionOf, together}
 use Rattle.tensor_answers.specs.OwnQuestions.{tensorQuestions}
@@ -65,7 +65,7 @@ unfolding sumTo each put axes axesOf layoutOf address labels together groupOf in
 worked = (refl, refl)
 
 pub job-accepted : Accepted job sizes (three a b d)
-unfolding axes axesOf layoutOf labels together tensorQuestions labelQuestions entryQuestions layoutQuestions rankFits countsMatch lettersValid extentsValid stridesValid sizesValid extentsAgree points pointsFit span inside below apart acceptQuestions sizeQuestion sizesFit
+unfolding axes axesOf layoutOf labels together tensorQuestions labelQuestions entryQuestions layoutQuestions rankFits countsMatch lettersValid extentsValid stridesValid sizesValid extentsAgree points pointsFit hasEntries span inside below stridesApart apart acceptQuestions sizeQuestion sizesFit
 job-accepted = record { passed = refl }
 
 -- 3 tiles, a tile call that is refused since its work slice is empty, and questions for states
@@ -84,5 +84,5 @@ pub calls : (run job sizes a b part-way 0 d
       words = 211 ∷ 402 ∷ 300 ∷ 400 ∷ [];
     }) × (run job sizes a b to-the-end 0 d
     ≡ record { said = tiled (ran 3 false) ∷ tiled (ran 8 true) ∷ tiled (ran 8 true) ∷ found (is final) ∷ []; t = 8; words = 211 ∷ 414 ∷ 608 ∷ 810 ∷ [] })
-unfolding sumTo each put axes axesOf layoutOf address labels together groupOf inGroup group index entry tensorQuestions labelQuestions entryQuestions layoutQuestions rankFits countsMatch lettersValid extentsValid stridesValid sizesValid extentsAgree points pointsFit span inside below apart blocks width MB NB KB total tileNumber batchOf columnOf panelOf rowOf done doneCount stateAt panelSum addPanel tileAt visitTile walkTiles tilesFrom addressAt entryOn setting acceptQuestions sizeQuestion sizesFit roomQuestion doneQuestion indexQuestion tileQuestions stateQuestions ranCall tileCall stateCall run
+unfolding sumTo each put axes axesOf layoutOf address labels together groupOf inGroup group index entry tensorQuestions labelQuestions entryQuestions layoutQuestions rankFits countsMatch lettersValid extentsValid stridesValid sizesValid extentsAgree points pointsFit hasEntries span inside below stridesApart apart blocks width MB NB KB total tileNumber batchOf columnOf panelOf rowOf done doneCount stateAt panelSum addPanel tileAt visitTile walkTiles tilesFrom addressAt entryOn setting acceptQuestions sizeQuestion sizesFit roomQuestion doneQuestion indexQuestion tileQuestions stateQuestions ranCall tileCall stateCall run
 calls = (refl, refl)

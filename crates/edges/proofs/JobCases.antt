@@ -1,4 +1,4 @@
--- What is printed for two job files and for an empty one, by computation: what is read, then the text of the call. Of the work slice only its length is looked at.
+-- What is printed for four job files and for an empty one, by computation: what is read, then the text of the call. Of the work slice only its length is looked at.
 -- Assumes nothing.
 use Prim.Native.Nat.{ℕ}
 use mathlib.Core.Path.{_≡_, refl, _∙_, ap}
@@ -14,7 +14,7 @@ use Rattle.layout.specs.Layout.{axesOf, layoutOf, axes, address}
 use Rattle.validity.specs.TensorQuestions.{rankFits, countsMatch, lettersValid, extentsValid, stridesValid, sizesValid}
 use Rattle.labels.specs.Labels.{labels}
 use Rattle.points.specs.LabelQuestions.{extentsAgree, points, pointsFit}
-use Rattle.entries.specs.EntryQuestions.{span, inside, below, apart}
+use Rattle.entries.specs.EntryQuestions.{hasEntries, span, inside, below, stridesApart, apart}
 use Rattle.contraction.specs.Operands.{together}
 use Rattle.tensor_answers.specs.OwnQuestions.{tensorQuestions}
 use Rattle.questions.specs.Questions.{labelQuestions, entryQuestions, layoutQuestions}
@@ -30,14 +30,14 @@ use Rattle.tile_questions.specs.TileQuestions.{sizesFit, sizeQuestion, roomQues
 use Rattle.tiled.specs.TileCall.{ranCall, tileCall}
 use Rattle.records.specs.Records.{got}
 use Rattle.jobfile.specs.Format.{Job, readJob}
-use Rattle.jobfile.specs.JobFileCases.{exampleFile, exampleJob, skewedFile, skewedJob}
+use Rattle.jobfile.specs.JobFileCases.{exampleFile, exampleJob, skewedFile, skewedJob, emptyDepthFile, emptyDepthJob, emptyOutputFile, emptyOutputJob}
 use Rattle.jobfile.proofs.JobFileCases.{job-file-cases}
 use Rattle.decode.specs.JobValues.{contractionIn, slicesIn}
 use Rattle.states.specs.StateLetters.{stateLetters}
 use Rattle.report.specs.Text.{digitsOf, decimal, refusedText, tilesLine, wordLine, wordLines, reportText}
 use Rattle.job_call.specs.Answer.{answerText, callText}
 use Rattle.job.specs.Run.{runText, readingText, jobText}
-use Rattle.edges.specs.JobCases.{exampleText, skewedText, JobCases}
+use Rattle.edges.specs.JobCases.{exampleText, skewedText, emptyDepthText, emptyOutputText, JobCases}
 
 -- the text of a job's call with a work slice
 unfoldable calledWith : Job → List ℕ → List ℕ
@@ -54,9 +54,11 @@ read-text : (file : List ℕ) {j : Job} {end : ℕ} → readJob file ≡ got j e
 unfolding calledWith runText readingText jobText
 read-text file read = ap readingText read
 
-both-called : (work : List ℕ) → length work ≡ workRoom → (calledWith exampleJob work ≡ exampleText) × (calledWith skewedJob work ≡ skewedText)
-unfolding calledWith each put sumTo axesOf layoutOf axes address rankFits countsMatch lettersValid extentsValid stridesValid sizesValid labels extentsAgree points pointsFit span inside below apart together tensorQuestions labelQuestions entryQuestions layoutQuestions groupOf inGroup group index entry blocks width MB NB KB total tileNumber batchOf columnOf panelOf rowOf done doneCount stateAt panelSum render addPanel tileAt visitTile walkTiles tilesFrom addressAt entryOn setting sizesFit sizeQuestion roomQuestion doneQuestion acceptQuestions tileQuestions ranCall tileCall stateLetters digitsOf refusedText tilesLine wordLine wordLines reportText answerText callText
-both-called work e = rw e (refl, refl)
+all-called : (work : List ℕ) → length work ≡ workRoom
+    → (calledWith exampleJob work ≡ exampleText) × (calledWith skewedJob work ≡ skewedText) × (calledWith emptyDepthJob work ≡ emptyDepthText)
+    × (calledWith emptyOutputJob work ≡ emptyOutputText)
+unfolding calledWith each put sumTo axesOf layoutOf axes address rankFits countsMatch lettersValid extentsValid stridesValid sizesValid labels extentsAgree points pointsFit hasEntries span inside below stridesApart apart together tensorQuestions labelQuestions entryQuestions layoutQuestions groupOf inGroup group index entry blocks width MB NB KB total tileNumber batchOf columnOf panelOf rowOf done doneCount stateAt panelSum render addPanel tileAt visitTile walkTiles tilesFrom addressAt entryOn setting sizesFit sizeQuestion roomQuestion doneQuestion acceptQuestions tileQuestions ranCall tileCall stateLetters digitsOf refusedText tilesLine wordLine wordLines reportText answerText callText
+all-called work e = rw e (refl, refl, refl, refl)
 
 refused-21 : refusedText 21 ≡ codes "refused 21\n"
 unfolding digitsOf refusedText
@@ -70,8 +72,10 @@ pub job-cases : JobCases
 unfolding readingText jobText
 job-cases =
     record {
-      example = read-text exampleFile (job-file-cases .example) ∙ called-with exampleJob workRoom (λ work e. both-called work e .0);
-      skewed = read-text skewedFile (job-file-cases .skewed) ∙ called-with skewedJob workRoom (λ work e. both-called work e .1);
+      example = read-text exampleFile (job-file-cases .example) ∙ called-with exampleJob workRoom (λ work e. all-called work e .0);
+      skewed = read-text skewedFile (job-file-cases .skewed) ∙ called-with skewedJob workRoom (λ work e. all-called work e .1);
+      empty-depth = read-text emptyDepthFile (job-file-cases .empty-depth) ∙ called-with emptyDepthJob workRoom (λ work e. all-called work e .2);
+      empty-output = read-text emptyOutputFile (job-file-cases .empty-output) ∙ called-with emptyOutputJob workRoom (λ work e. all-called work e .3);
       decimals = in-decimals;
       empty = ap readingText (job-file-cases .empty) ∙ refused-21;
     }

@@ -3,6 +3,7 @@
 use Rattle.limits.proofs.LimitCases.{limit-cases}
 use Rattle.validity.proofs.TensorCases.{tensor-cases}
 use Rattle.points.proofs.LabelCases.{label-cases}
+use Rattle.entries.proofs.EntryCases.{entry-cases}
 use Rattle.contraction.proofs.OrderCases.{order-cases}
 use Rattle.tensor_answers.proofs.OwnQuestionCases.{own-question-cases}
 use Rattle.questions.proofs.QuestionCases.{question-cases}
@@ -32,6 +33,7 @@ pinned =
       limits = limit-cases;
       one-tensor = tensor-cases;
       all-labels = label-cases;
+      all-entries = entry-cases;
       own-order = own-question-cases;
       in-order = question-cases;
       of-tiles = tile-question-cases;

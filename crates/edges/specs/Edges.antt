@@ -1,4 +1,5 @@
--- The ten small cases of the rules that are proved, as one table, each quoted above its rows. Strides 1, beta 0, alpha 1 unless given.
+-- The ten small cases of the rules that are proved, and layers with nothing in them, as one table, each quoted above its rows. Strides 1, beta 0, alpha 1
+-- unless given.
 -- Assumes nothing.
 use Prim.Native.Nat.{ℕ}
 use mathlib.Core.Path.{_≡_}
@@ -76,4 +77,13 @@ edges =
     ∷ asked (plain scalar scalar (matrix 3 (pos 1) 2 (pos 3))) (three (1 ∷ []) (1 ∷ []) (0 ∷ 0 ∷ 0 ∷ 0 ∷ 0 ∷ 0 ∷ [])) 0
     ∷ asked (plain scalar scalar (vector 2 (pos 0) 0)) (three (1 ∷ []) (1 ∷ []) (0 ∷ [])) 9
     ∷ asked (plain scalar scalar (vector 1 (pos 0) 0)) (three (1 ∷ []) (1 ∷ []) (0 ∷ [])) 0
+    -- 11. A `i` extent 0 without words, base 5, B 10, D 7, both without letters, beta 3: 21. A and B `i` extent 0, D `j` extent 2, 5 6, beta 3: 15 18.
+    ∷ gives (contractionOf (vector 0 (pos 1) 5) scalar scalar 1 3) (three [] (10 ∷ []) (7 ∷ [])) (21 ∷ [])
+    ∷ gives (contractionOf (vector 0 (pos 1) 0) (vector 0 (pos 1) 0) (layoutOf (106 ∷ []) (2 ∷ []) (pos 1 ∷ []) 0) 1 3)
+    (three (1 ∷ []) [] (5 ∷ 6 ∷ [])) (15 ∷ 18 ∷ [])
+    -- 12. D `ij` extents 3 0, strides 0 0, base 9, words 4 5: 4 5. `i,i` to `i`, extent 0, D 8: 8.
+    ∷ gives (plain scalar scalar (layoutOf (105 ∷ 106 ∷ []) (3 ∷ 0 ∷ []) (pos 0 ∷ pos 0 ∷ []) 9)) (three (2 ∷ []) (3 ∷ []) (4 ∷ 5 ∷ [])) (4 ∷ 5 ∷ [])
+    ∷ gives (plain (vector 0 (pos 1) 0) (vector 0 (pos 1) 0) (vector 0 (pos 1) 0)) (three [] [] (8 ∷ [])) (8 ∷ [])
+    -- 13. Extent 65,537: 4.
+    ∷ asked (plain (vector 65537 (pos 0) 0) scalar scalar) (three (1 ∷ []) (1 ∷ []) (0 ∷ [])) 4
     ∷ []

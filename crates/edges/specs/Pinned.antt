@@ -5,6 +5,7 @@ use Rattle.words.specs.Sums.{All}
 use Rattle.limits.specs.LimitCases.{LimitCases}
 use Rattle.validity.specs.TensorCases.{TensorCases}
 use Rattle.points.specs.LabelCases.{LabelCases}
+use Rattle.entries.specs.EntryCases.{EntryCases}
 use Rattle.contraction.specs.OrderCases.{OrderCases}
 use Rattle.tensor_answers.specs.OwnQuestionCases.{OwnQuestionCases}
 use Rattle.questions.specs.QuestionCases.{QuestionCases}
@@ -32,10 +33,11 @@ pub record Pinned : Type 0 where
   -- the questions
   pub one-tensor : TensorCases
   pub all-labels : LabelCases
+  pub all-entries : EntryCases
   pub own-order : OwnQuestionCases
   pub in-order : QuestionCases
   pub of-tiles : TileQuestionCases
-  -- what a contraction means: the ten starred cases of the rules, and one with every kind of label
+  -- what a contraction means: the ten starred cases of the rules, layers with nothing in them, and one with every kind of label
   pub starred : All Holds edges
   pub letter-order : OrderCases
   pub groups : GroupCases

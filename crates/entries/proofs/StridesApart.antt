@@ -12,13 +12,14 @@ use Rattle.words.specs.Sums.{sumOf, All}
 use Rattle.words.specs.Lists.{member}
 use Rattle.words.specs.Words.{up, down}
 use Rattle.words.proofs.Lists.{all-imp, all-of, all-both, eqb-true, sumOf-single, members}
-use Rattle.words.proofs.Sums.{sumOf-add, every-all}
+use Rattle.words.proofs.Sums.{sumOf-add, every-all, where-split}
 use Rattle.layout.specs.declared.layout.Axis.{Axis}
 use Rattle.layout.specs.declared.layout.Layout.{Layout}
 use Rattle.layout.specs.Layout.{axes, address}
 use Rattle.labels.specs.Labels.{strideOf, extentOf, labels}
-use Rattle.entries.specs.EntryQuestions.{strideSize, below, apart}
+use Rattle.entries.specs.EntryQuestions.{hasEntries, strideSize, below, stridesApart, apart}
 use Rattle.entries.specs.Bounds.{InRange, Inside}
+use Rattle.entries.proofs.Bounds.{in-range-some}
 use Rattle.entries.proofs.ByLabel.{labels-unique, axes-labels}
 use Rattle.entries.proofs.Injective.{sumOf-le, reach, equal-sums}
 
@@ -76,8 +77,8 @@ module _ (xs : List Axis) where
       each c false p false = omega arith
 
   -- question 9 leaves room at every label
-  roomy : T (apart xs) → All (λ c. 1 < ext c → reach ext step (labels xs) (step c) < ext c * step c) (labels xs)
-  unfolding ext step apart
+  roomy : T (stridesApart xs) → All (λ c. 1 < ext c → reach ext step (labels xs) (step c) < ext c * step c) (labels xs)
+  unfolding ext step stridesApart
   roomy q = all-imp room (labels xs) (all-both _ _ (labels xs) (members (labels xs)) (every-all _ (labels xs) q))
     where
       room : (c : ℕ) → (member c (labels xs) ≡ true) × T (leb (ext c) 1 || ltb (below xs c) (step c)) → 1 < ext c → reach ext step (labels xs) (step c) < ext c * step c
@@ -106,9 +107,10 @@ module _ (xs : List Axis) where
 -- two indices in range with one address agree at every label
 pub apart-injective : (l : Layout) → T (apart (axes l)) → (n : ℕ) (ρ σ : ℕ → ℕ) → InRange (axes l) ρ → InRange (axes l) σ → Inside l n ρ → Inside l n σ
     → address l ρ ≡ address l σ → All (λ c. ρ c ≡ σ c) (labels (axes l))
-unfolding address upper
+unfolding address upper apart
 apart-injective l q n ρ σ hρ hσ iρ iσ e =
     let xs : List Axis = axes l in
+    let room = where-split (hasEntries xs) (stridesApart xs) q (in-range-some xs ρ hρ) in
     all-imp (λ c. pick-eq (strideOf c xs) (ρ c) (σ c)) (labels xs)
-    (equal-sums (ext xs) (step xs) (upper xs ρ σ) (upper xs σ ρ) (labels xs) (upper-in xs ρ σ hρ hσ) (upper-in xs σ ρ hσ hρ) (roomy xs q)
+    (equal-sums (ext xs) (step xs) (upper xs ρ σ) (upper xs σ ρ) (labels xs) (upper-in xs ρ σ hρ hσ) (upper-in xs σ ρ hσ hρ) (roomy xs room)
     (omega (arith, upper-sum xs ρ σ (labels xs), upper-sum xs σ ρ (labels xs), axes-labels xs ρ, axes-labels xs σ)))

@@ -6,7 +6,8 @@ ghost use Rattle.layout.specs.Listed.{listed};
 ghost use Rattle.validity.specs.Checked.{Checked};
 ghost use Rattle.labels.specs.Labels.{extentOf};
 ghost use Rattle.labels.specs.Lettered.{Lettered};
-ghost use Rattle.entries.specs.EntryQuestions.{strideSize, below, apart};
+ghost use Rattle.entries.specs.EntryQuestions.{strideSize, below, stridesApart, apart};
+use super::inside::reach_of;
 use labels::labels::extent_of;
 use labels::labels::last_index;
 use labels::labels::stride_of;
@@ -52,10 +53,10 @@ fn sum_below(x: Labelled, c: u32) -> u64
     sum
 }
 
-// Question 9.
-pub fn all_apart(x: Labelled) -> bool
+// Does the stride of each label leave room for those that are no greater?
+fn strides_apart(x: Labelled) -> bool
     requires { ⌜ Lettered x ⌝ }
-    ensures { λ r. ⌜ r ≡ apart (listed (x .axes)) ⌝ }
+    ensures { λ r. ⌜ r ≡ stridesApart (listed (x .axes)) ⌝ }
 {
     let all = x.letters;
     let mut i = all.count;
@@ -66,4 +67,13 @@ pub fn all_apart(x: Labelled) -> bool
         apart = ((extent_of(x.axes, c) <= 1) | (sum_below(x, c) < stride_size(x.axes, c))) & apart;
     }
     apart
+}
+
+// Question 9.
+pub fn all_apart(x: Labelled) -> bool
+    requires { ⌜ Lettered x ⌝ }
+    ensures { λ r. ⌜ r ≡ apart (listed (x .axes)) ⌝ }
+{
+    let reach = reach_of(x);
+    !reach.some | strides_apart(x)
 }

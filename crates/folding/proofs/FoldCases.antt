@@ -1,4 +1,4 @@
--- Labels of extent 1, and more than two labels, by computation.
+-- Labels of extent 1 and 0, and more than two labels, by computation.
 -- Assumes nothing.
 use mathlib.Core.Path.{refl}
 use Rattle.folding.specs.FoldCases.{FoldCases}
@@ -9,4 +9,6 @@ fold-cases =
       dropped = refl;
       left-to-right = refl;
       neighbours = refl;
+      zero-stays = refl;
+      zero-joined = refl;
     }

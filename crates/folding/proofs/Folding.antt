@@ -3,8 +3,8 @@
 use mathlib.Core.Path.{_≡_, refl, ap, sym, _∙_}
 use mathlib.Core.Bool.{Bool, true, false, cond, _&&_, and-true, and-false}
 use mathlib.Core.List.{List, [], _∷_, _++_}
-use Prim.Native.Nat.{ℕ, _*_, _≤_, _<_}
-use native.Mathlib.Nat.{mul-pos, mul-le-mul-left, mul-le-mul-right}
+use Prim.Native.Nat.{ℕ, _*_, _≤_, max}
+use native.Mathlib.Nat.{mul-pos, mul-le-mul, mul-le-mul-left, mul-le-mul-right, le-max-left, le-max-right, max-le}
 use native.Mathlib.Omega.{arith}
 use borrow.Author.Tests.{eq-eqb, ne-eqb}
 use lib.IntN.{ℤ, pos, negsuc}
@@ -13,8 +13,9 @@ use Rattle.words.specs.Sums.{All}
 use Rattle.words.specs.Lists.{keep}
 use Rattle.words.specs.Words.{up, down}
 use Rattle.limits.specs.Limits.{productLimit}
-use Rattle.groups.specs.Groups.{Label, size}
-use Rattle.groups.specs.Foldable.{Small, Foldable}
+use Rattle.groups.specs.Groups.{Label}
+use Rattle.groups.specs.Foldable.{pointsIn, Small, Foldable}
+use Rattle.groups.proofs.Points.{points-pos}
 use Rattle.folding.specs.Fold.{eqℤ, joins, join, joinFrom, joinAll, notOne, fold}
 
 -- a folded list with one label more: joined to the last one, or behind it
@@ -46,23 +47,23 @@ all-add P k (p ∷ []) l a h = go (joins p l)
     go false = (a .0, (h, tt))
 all-add P k (p ∷ q ∷ g) l a h = (a .0, all-add P k (q ∷ g) l (a .1) h)
 
-pub size-add : (g : List Label) (l : Label) → size (addTo g l) ≡ size g * l .extent
-size-add [] l = omega arith
-size-add (p ∷ []) l = go (joins p l)
+-- where 0 counts as 1, a product counts no more than its factors
+counted-mul : (a b : ℕ) → max 1 (a * b) ≤ max 1 a * max 1 b
+counted-mul a b = max-le (mul-pos (le-max-left 1 a) (le-max-left 1 b)) (mul-le-mul (le-max-right 1 a) (le-max-right 1 b))
+
+points-add : (g : List Label) (l : Label) → pointsIn (addTo g l) ≤ pointsIn g * max 1 (l .extent)
+points-add [] l = omega arith
+points-add (p ∷ []) l = go (joins p l)
   where
-    go : (b : Bool) → size (cond b (join p l ∷ []) (p ∷ l ∷ [])) ≡ size (p ∷ []) * l .extent
-    go true = omega arith
+    go : (b : Bool) → pointsIn (cond b (join p l ∷ []) (p ∷ l ∷ [])) ≤ pointsIn (p ∷ []) * max 1 (l .extent)
+    go true = omega (arith, counted-mul (p .extent) (l .extent))
     go false = omega arith
-size-add (p ∷ q ∷ g) l = omega (arith, ap (λ (n : ℕ). p .extent * n) (size-add (q ∷ g) l))
+points-add (p ∷ q ∷ g) l = omega (arith, mul-le-mul-left (max 1 (p .extent)) (points-add (q ∷ g) l))
 
-pub size-pos : (g : List Label) → All (λ l. 0 < l .extent) g → 0 < size g
-size-pos [] a = omega arith
-size-pos (l ∷ g) a = mul-pos (a .0) (size-pos g (a .1))
-
--- the last extent is no more than the size
-pub last-fits : (g : List Label) (l : Label) (n : ℕ) → All (λ q. 0 < q .extent) g → size (g ++ l ∷ []) ≤ n → l .extent ≤ n
-last-fits [] l n a h = omega arith
-last-fits (q ∷ g) l n a h = last-fits g l n (a .1) (omega (arith, h, mul-le-mul-right (size (g ++ l ∷ [])) (a .0)))
+-- the last extent is no more than the product
+pub last-fits : (g : List Label) (l : Label) (n : ℕ) → pointsIn (g ++ l ∷ []) ≤ n → l .extent ≤ n
+last-fits [] l n h = omega (arith, le-max-right 1 (l .extent))
+last-fits (q ∷ g) l n h = last-fits g l n (omega (arith, h, mul-le-mul-right (pointsIn (g ++ l ∷ [])) (le-max-left 1 (q .extent))))
 
 -- ---- a folded list, and the labels still to come
 
@@ -98,16 +99,14 @@ resume-add (q ∷ p ∷ g) l r = later q p g l r ∙ ap (λ (h : List Label). q 
 pub record Folding (done rest all : List Label) : Type 0 where
   pub goes : resume done (keep notOne rest) ≡ fold all
   pub foldable : Foldable done
-  pub extents : All (λ l. 0 < l .extent) rest
   pub strides : All Small rest
-  pub points : size done * size rest ≤ productLimit
+  pub points : pointsIn done * pointsIn rest ≤ productLimit
 
 pub fold-start : (all : List Label) → Foldable all → Folding [] all all
 fold-start all f =
     record {
       goes = refl;
-      foldable = record { extents = tt; strides = tt; points = omega arith };
-      extents = f .extents;
+      foldable = record { strides = tt; points = omega arith };
       strides = f .strides;
       points = omega (arith, f .points);
     }
@@ -122,9 +121,8 @@ module _ (done rest all : List Label) (l : Label) (f : Folding done (l ∷ rest)
       record {
         goes = rw (eq-eqb (l .extent) 1 e) at (f .goes);
         foldable = f .foldable;
-        extents = f .extents .1;
         strides = f .strides .1;
-        points = omega (arith, f .points, ap (λ (n : ℕ). size done * (n * size rest)) e);
+        points = omega (arith, f .points, ap (λ (n : ℕ). pointsIn done * (max 1 n * pointsIn rest)) e);
       }
 
   -- any other is added
@@ -134,11 +132,9 @@ module _ (done rest all : List Label) (l : Label) (f : Folding done (l ∷ rest)
         goes = resume-add done l (keep notOne rest) ∙ (rw (ne-eqb (l .extent) 1 n) at (f .goes));
         foldable =
             record {
-              extents = all-add (λ q. 0 < q .extent) (λ p q. mul-pos) done l (f .foldable .extents) (f .extents .0);
               strides = all-add Small (λ p q s t. record { strides = s .strides }) done l (f .foldable .strides) (f .strides .0);
-              points = omega (arith, f .points, size-add done l, mul-le-mul-left (size done * l .extent) (size-pos rest (f .extents .1)));
+              points = omega (arith, f .points, points-add done l, mul-le-mul-left (pointsIn done * max 1 (l .extent)) (points-pos rest));
             };
-        extents = f .extents .1;
         strides = f .strides .1;
-        points = omega (arith, f .points, ap (λ (n : ℕ). n * size rest) (size-add done l));
+        points = omega (arith, f .points, mul-le-mul-right (pointsIn rest) (points-add done l));
       }

@@ -48,11 +48,10 @@ module _ (g : Group) (h : 0 < g .count) where
   pub small-last : Foldable (labelsIn g) → Small (asLabel (last g))
   small-last f = all-split Small (front g) (asLabel (last g) ∷ []) (rw split at (f .strides)) .1 .0
 
-  pub joined-fits : (l : Dim) → Foldable (labelsIn g) → Foldable (addTo (labelsIn g) (asLabel l)) → joins (asLabel (last g)) (asLabel l) ≡ true
+  pub joined-fits : (l : Dim) → Foldable (addTo (labelsIn g) (asLabel l)) → joins (asLabel (last g)) (asLabel l) ≡ true
       → last g .extent * l .extent < 4294967296
-  joined-fits l f k e =
-      let a : All (λ q. 0 < q .extent) (front g) = all-split (λ q. 0 < q .extent) (front g) (asLabel (last g) ∷ []) (rw split at (f .extents)) .0 in
-      let b : last g .extent * l .extent ≤ productLimit = last-fits (front g) (join (asLabel (last g)) (asLabel l)) productLimit a (rw (grown-by l true e) at (k .points)) in
+  joined-fits l k e =
+      let b : last g .extent * l .extent ≤ productLimit = last-fits (front g) (join (asLabel (last g)) (asLabel l)) productLimit (rw (grown-by l true e) at (k .points)) in
       omega arith
 
   replaced : (l j : Dim) → g .count - 1 < length (g .dims) → joins (asLabel (last g)) (asLabel l) ≡ true → asLabel j ≡ join (asLabel (last g)) (asLabel l)

@@ -1,4 +1,4 @@
--- Folding beside the starred case of the rules: labels of extent 1, and more than two labels.
+-- Folding beside the starred case of the rules: labels of extent 1 and 0, and more than two labels.
 -- Assumes nothing.
 use Prim.Native.Nat.{ℕ}
 use mathlib.Core.Path.{_≡_}
@@ -25,3 +25,8 @@ pub record FoldCases : Type 0 where
   pub neighbours :
       fold (lab 105 2 (pos 1) (pos 1) (pos 1) ∷ lab 106 3 (pos 7) (pos 7) (pos 7) ∷ lab 107 4 (pos 2) (pos 2) (pos 2) ∷ [])
       ≡ lab 105 2 (pos 1) (pos 1) (pos 1) ∷ lab 106 3 (pos 7) (pos 7) (pos 7) ∷ lab 107 4 (pos 2) (pos 2) (pos 2) ∷ []
+  -- a label of extent 0 stays, and a label with no stride joins it
+  pub zero-stays :
+      fold (lab 105 2 (pos 1) (pos 1) (pos 1) ∷ lab 106 0 (pos 7) (pos 7) (pos 7) ∷ [])
+      ≡ lab 105 2 (pos 1) (pos 1) (pos 1) ∷ lab 106 0 (pos 7) (pos 7) (pos 7) ∷ []
+  pub zero-joined : fold (lab 105 0 (pos 1) (pos 2) (pos 3) ∷ lab 106 4 (pos 0) (pos 0) (pos 0) ∷ []) ≡ lab 105 0 (pos 1) (pos 2) (pos 3) ∷ []

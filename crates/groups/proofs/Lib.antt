@@ -1,3 +1,4 @@
 pub mod GroupCases
 pub mod LabelLists
+pub mod Points
 pub mod Sets

@@ -1,4 +1,4 @@
--- What is read of two job files, by computation.
+-- What is read of four job files, by computation.
 -- Assumes nothing.
 use mathlib.Core.Path.{refl}
 use Rattle.layout.specs.Layout.{axesOf, layoutOf, axes}
@@ -14,6 +14,8 @@ job-file-cases =
     record {
       example = refl;
       skewed = refl;
+      empty-depth = refl;
+      empty-output = refl;
       empty = refl;
       longer = refl;
     }

@@ -1,4 +1,4 @@
--- Two job files, byte by byte, and what is read.
+-- Four job files, byte by byte, and what is read.
 -- Assumes nothing.
 use Prim.Native.Nat.{ℕ, _/_, _%_}
 use mathlib.Core.Path.{_≡_}
@@ -54,10 +54,43 @@ skewedJob =
     (tensor (layoutOf (codes "ij") (2 ∷ 2 ∷ []) (pos 1 ∷ pos 3 ∷ []) 0) (10 ∷ 20 ∷ 30 ∷ 40 ∷ 50 ∷ []))
     (record { alpha = 2; beta = 3; sizes = record { rows = 2; cols = 1; depth = 2 }; done = 0; budget = 1 })
 
+-- k has extent 0: A, from base 7 on, and B have no words
+abbrev pub emptyDepthFile : List ℕ
+emptyDepthFile =
+    codes "LA" ++ 2 ∷ codes "ik" ++ fours (2 ∷ 0 ∷ 1 ∷ 2 ∷ 7 ∷ []) ++ codes "WA" ++ four 0
+    ++ codes "LB" ++ 2 ∷ codes "kj" ++ fours (0 ∷ 2 ∷ 1 ∷ 0 ∷ 0 ∷ []) ++ codes "WB" ++ four 0
+    ++ codes "LD" ++ 2 ∷ codes "ij" ++ fours (2 ∷ 2 ∷ 1 ∷ 3 ∷ 0 ∷ []) ++ codes "WD" ++ fours (5 ∷ 10 ∷ 20 ∷ 30 ∷ 40 ∷ 50 ∷ [])
+    ++ codes "GO" ++ four 2 ++ four 3 ++ two 2 ++ two 1 ++ two 2 ++ four 0 ++ four 1
+
+abbrev pub emptyDepthJob : Job
+emptyDepthJob =
+    jobOf
+    (tensor (layoutOf (codes "ik") (2 ∷ 0 ∷ []) (pos 1 ∷ pos 2 ∷ []) 7) [])
+    (tensor (layoutOf (codes "kj") (0 ∷ 2 ∷ []) (pos 1 ∷ pos 0 ∷ []) 0) [])
+    (tensor (layoutOf (codes "ij") (2 ∷ 2 ∷ []) (pos 1 ∷ pos 3 ∷ []) 0) (10 ∷ 20 ∷ 30 ∷ 40 ∷ 50 ∷ []))
+    (record { alpha = 2; beta = 3; sizes = record { rows = 2; cols = 1; depth = 2 }; done = 0; budget = 1 })
+
+-- D's only label has extent 0, and D has two words
+abbrev pub emptyOutputFile : List ℕ
+emptyOutputFile =
+    codes "LA" ++ 0 ∷ four 0 ++ codes "WA" ++ fours (1 ∷ 2 ∷ []) ++ codes "LB" ++ 0 ∷ four 0 ++ codes "WB" ++ fours (1 ∷ 3 ∷ [])
+    ++ codes "LD" ++ 1 ∷ codes "i" ++ fours (0 ∷ 1 ∷ 0 ∷ []) ++ codes "WD" ++ fours (2 ∷ 4 ∷ 5 ∷ [])
+    ++ codes "GO" ++ four 1 ++ four 2 ++ two 1 ++ two 1 ++ two 1 ++ four 0 ++ four 9
+
+abbrev pub emptyOutputJob : Job
+emptyOutputJob =
+    jobOf
+    (tensor (layoutOf [] [] [] 0) (2 ∷ []))
+    (tensor (layoutOf [] [] [] 0) (3 ∷ []))
+    (tensor (layoutOf (codes "i") (0 ∷ []) (pos 1 ∷ []) 0) (4 ∷ 5 ∷ []))
+    (record { alpha = 1; beta = 2; sizes = record { rows = 1; cols = 1; depth = 1 }; done = 0; budget = 9 })
+
 pub record JobFileCases : Type 0 where
   -- "Records in the order A layout, A words, B layout, B words, D layout, D words, go"
   pub example : readJob exampleFile ≡ got exampleJob 181
   pub skewed : readJob skewedFile ≡ got skewedJob 157
+  pub empty-depth : readJob emptyDepthFile ≡ got emptyDepthJob 137
+  pub empty-output : readJob emptyOutputFile ≡ got emptyOutputJob 88
   -- "After `GO`, has the file ended? 22. An empty file gives 21"
   pub empty : readJob [] ≡ fileRefused 21
   pub longer : readJob (exampleFile ++ 0 ∷ []) ≡ fileRefused 22

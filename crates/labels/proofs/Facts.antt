@@ -2,7 +2,7 @@
 -- sum of the strides of at most all axes.
 -- Assumes nothing.
 use mathlib.Core.Path.{_≡_}
-use mathlib.Core.Bool.{Bool, true, false, cond, _&&_}
+use mathlib.Core.Bool.{Bool, true, false, cond}
 use mathlib.Core.List.{List, [], _∷_}
 use Prim.Native.Nat.{ℕ, _*_, _^_, _≤_, _<_}
 use native.Mathlib.Omega.{arith}
@@ -20,18 +20,16 @@ use Rattle.layout.proofs.Listed.{length-listed}
 use Rattle.validity.specs.TensorQuestions.{extentsValid, stridesValid}
 use Rattle.labels.specs.Labels.{strideOf, extentOf}
 
-pub extents-bound : (xs : List Axis) → T (extentsValid xs) → (c : ℕ) → (1 ≤ extentOf c xs) × (extentOf c xs ≤ extentLimit)
+pub extents-bound : (xs : List Axis) → T (extentsValid xs) → (c : ℕ) → extentOf c xs ≤ extentLimit
 unfolding extentsValid
-extents-bound [] t c = (omega arith, omega arith)
+extents-bound [] t c = omega arith
 extents-bound (a ∷ xs) t c =
-    let h = and-split (leb 1 (a .extent) && leb (a .extent) extentLimit) (extentsValid xs) t in
-    let k = and-split (leb 1 (a .extent)) (leb (a .extent) extentLimit) (h .0) in
-    go (eqb (a .letter) c) (leb→le 1 (a .extent) (k .0)) (leb→le (a .extent) extentLimit (k .1)) (extents-bound xs (h .1) c)
+    let h = and-split (leb (a .extent) extentLimit) (extentsValid xs) t in
+    go (eqb (a .letter) c) (leb→le (a .extent) extentLimit (h .0)) (extents-bound xs (h .1) c)
   where
-    go : (b : Bool) → 1 ≤ a .extent → a .extent ≤ extentLimit → (1 ≤ extentOf c xs) × (extentOf c xs ≤ extentLimit)
-        → (1 ≤ cond b (a .extent) (extentOf c xs)) × (cond b (a .extent) (extentOf c xs) ≤ extentLimit)
-    go true l u r = (l, u)
-    go false l u r = r
+    go : (b : Bool) → a .extent ≤ extentLimit → extentOf c xs ≤ extentLimit → cond b (a .extent) (extentOf c xs) ≤ extentLimit
+    go true l r = l
+    go false l r = r
 
 pub strides-bound : (xs : List Axis) → T (stridesValid xs) → (c : ℕ) → natAbs (strideOf c xs) ≤ length xs * strideLimit
 unfolding stridesValid

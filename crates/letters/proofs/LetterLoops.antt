@@ -1,14 +1,17 @@
 -- What the loops over output indices put: each turn one letter more, at the place of its output index.
 -- Assumes nothing.
-use mathlib.Core.Path.{_≡_, refl, ap, _∙_}
+use mathlib.Core.Path.{_≡_, refl, ap, sym, _∙_}
+use mathlib.Core.Bool.{Bool, true, false, cond}
 use mathlib.Core.List.{List}
 use Prim.Native.Nat.{ℕ, _+_, _<_, _≤_, zero-le}
 use native.Mathlib.Numerals.{add-one}
 use native.Mathlib.Omega.{arith}
+use borrow.Author.Tests.{eqb-true}
+use lib.Dec.{eqb}
 use lib.ListN.{length, set}
 use Rattle.words.specs.Words.{word, wordOf}
 use Rattle.words.specs.Loops.{each, put}
-use Rattle.words.proofs.Loops.{each-ext}
+use Rattle.words.proofs.Loops.{each-ext, each-none}
 use Rattle.contraction.specs.Operands.{D}
 use Rattle.groups.specs.declared.groups.Group.{Group}
 use Rattle.groups.specs.Groups.{batch, row, column, size}
@@ -20,10 +23,11 @@ use Rattle.tiles.specs.declared.grid.Grid.{Grid}
 use Rattle.tiles.specs.Cut.{Cut}
 use Rattle.tiles.specs.Grid.{cutIn}
 use Rattle.tiles.specs.Progress.{State, stateAt}
+use Rattle.tiles.proofs.Sizes.{index-has-tile}
 use Rattle.tile_blocks.specs.Planned.{GridOf, atBatch, placeD}
 use Rattle.tile_blocks.specs.TilePlaces.{movedFrom}
 use Rattle.letters.specs.PrintedLetters.{letterOf}
-use Rattle.letters.specs.Placed.{lettered}
+use Rattle.letters.specs.Placed.{lettered, columnLetters}
 
 -- ---- loops
 
@@ -45,6 +49,33 @@ module _ {bound : ℕ} {body : ℕ → List ℕ → List ℕ} {was : List ℕ} {
 
   pub turns-all : bound ≤ n → out ≡ each bound body was
   turns-all h = let e : n ≡ bound = omega (arith, r .within) in r .words ∙ ap (λ (k : ℕ). each k body was) e
+
+-- ---- the batch counts that are walked
+
+module _ {p : Plan} {g : Grid} (o : GridOf p g) (t : ℕ) where
+  -- without a tile there is no output index, so that no turn puts a letter
+  no-letters : g .total ≡ 0 → (out : List ℕ) → each (cutIn g .H) (columnLetters p (cutIn g) t) out ≡ out
+  no-letters z =
+      each-none _ (cutIn g .H) (λ h bh. each-none _ (cutIn g .N) (λ j bj. each-none _ (cutIn g .M) (λ i bi words.
+      absurd (omega (arith, z, o .counted .total, index-has-tile (cutIn g) (o .counted .fits .rows-pos) (o .counted .fits .cols-pos) {h = h} {i = i} {j = j} (bh, bi, bj))))))
+
+  -- none where there is no tile, else all
+  module _ {n : ℕ} (e : n ≡ cond (eqb (g .total) 0) 0 (cutIn g .H)) where
+    pub walked-below : n ≤ cutIn g .H
+    walked-below = rw e (go (eqb (g .total) 0))
+      where
+        go : (b : Bool) → cond b 0 (cutIn g .H) ≤ cutIn g .H
+        go true = zero-le
+        go false = omega arith
+
+    pub walked-all : (out : List ℕ) → each n (columnLetters p (cutIn g) t) out ≡ each (cutIn g .H) (columnLetters p (cutIn g) t) out
+    unfolding each
+    walked-all out = rw e (go (eqb (g .total) 0) (eqb-true (g .total) 0))
+      where
+        go : (b : Bool) → (b ≡ true → g .total ≡ 0)
+            → each (cond b 0 (cutIn g .H)) (columnLetters p (cutIn g) t) out ≡ each (cutIn g .H) (columnLetters p (cutIn g) t) out
+        go true f = sym (no-letters (f refl) out)
+        go false f = refl
 
 -- ---- the row counts of a batch and a column count
 

@@ -1,5 +1,7 @@
 ghost use mathlib.Core.Path.{_≡_};
+ghost use mathlib.Core.Bool.{cond};
 ghost use Prim.Native.Nat.{_<_};
+ghost use lib.Dec.{eqb};
 ghost use lib.ListN.{length};
 ghost use Rattle.words.specs.Loops.{each};
 ghost use Rattle.words.specs.Lists.{tabulate};
@@ -57,13 +59,20 @@ fn letter_columns(p: Plan, g: Grid, t: u64, h: u32, out: &mut [u8])
     }
 }
 
+// How many batch counts are walked: none where there is no tile and so no output index, however many counts the other groups have.
+fn walked(total: u64, batches: u32) -> u32
+    ensures { λ r. ⌜ r ≡ cond (eqb total 0) 0 batches ⌝ }
+{
+    if total == 0 { 0 } else { batches }
+}
+
 // All output indices: each one's letter at its place in D.
 pub fn letter_batches(p: Plan, g: Grid, t: u64, out: &mut [u8])
     requires { ⌜ GridOf p g × Placed p (cutIn g) (length (now out)) ⌝ }
     ensures { λ _. ⌜ now (out .exit) ≡ each (cutIn g .H) (columnLetters p (cutIn g) t) (now (out .entry)) ⌝ }
 {
     let counts = g.counts;
-    let batches = counts.batch;
+    let batches = walked(g.total, counts.batch);
     let mut h: u32 = 0;
     while h < batches {
         letter_columns(p, g, t, h, out);

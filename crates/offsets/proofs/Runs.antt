@@ -6,16 +6,11 @@ use Prim.Native.Nat.{ℕ, _+_, _*_, _/_, _%_, _<_}
 use native.Mathlib.Nat.{div-add-mod, mul-mod-right, mul-div-right}
 use native.Mathlib.Omega.{arith}
 use Rattle.groups.specs.Groups.{Label, size}
-use Rattle.groups.specs.Foldable.{Foldable}
 use Rattle.offsets.specs.Counts.{offset}
 use Rattle.offsets.specs.FirstLabel.{firstLabel}
 use Rattle.offsets.proofs.Digits.{lowest, rest, pos-left}
 
-pub first-long : (g : List Label) → Foldable g → 0 < firstLabel g .extent
-first-long [] f = omega arith
-first-long (l ∷ g) f = f .extents .0
-
--- and so in a group that has a count
+-- in a group that has a count
 pub first-counts : (g : List Label) {n : ℕ} → n < size g → 0 < firstLabel g .extent
 first-counts [] h = omega arith
 first-counts (l ∷ g) {n} h = pos-left (l .extent) (size g) n h

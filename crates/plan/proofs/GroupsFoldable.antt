@@ -1,10 +1,11 @@
--- The labels of a contraction that was accepted can be folded: every extent is 1 or more, every stride is small, and the product over the
--- letters that pass any test is at most the product over all.
+-- The labels of a contraction that was accepted can be folded: every stride is small, and the product over the letters that pass any test, where an
+-- extent 0 counts as 1, is at most the product over all.
 -- Assumes nothing.
 use mathlib.Core.Path.{_≡_, refl, ap, _∙_, fun-ext}
 use mathlib.Core.Bool.{Bool, true, false, _&&_}
 use mathlib.Core.List.{List, [], _∷_, map}
-use Prim.Native.Nat.{ℕ, _<_}
+use Prim.Native.Nat.{ℕ, max}
+use native.Mathlib.Nat.{le-max-left}
 use native.Mathlib.Decide.{ℕ-discrete}
 use native.Mathlib.Omega.{arith}
 use borrow.Author.Tests.{leb-true}
@@ -17,30 +18,25 @@ use Rattle.words.proofs.Tabulate.{length-firstOf}
 use Rattle.limits.specs.Limits.{rankLimit, baseLimit, sliceLimit, productLimit}
 use Rattle.layout.specs.declared.layout.Layout.{Layout}
 use Rattle.layout.specs.Layout.{noAxis, axes}
-use Rattle.validity.specs.TensorQuestions.{rankFits, extentsValid, stridesValid, sizesValid}
+use Rattle.validity.specs.TensorQuestions.{rankFits, stridesValid, sizesValid}
 use Rattle.labels.specs.Labels.{extentOf, labels}
 use Rattle.labels.specs.LetterSets.{has}
-use Rattle.labels.proofs.Facts.{extents-bound, strides-bound}
+use Rattle.labels.proofs.Facts.{strides-bound}
 use Rattle.points.specs.LabelQuestions.{points, pointsFit}
 use Rattle.contraction.specs.declared.contraction.Contraction.{Contraction}
 use Rattle.contraction.specs.declared.operands.Operands.{Operands}
 use Rattle.contraction.specs.Operands.{Operand, Shape, tensors, shape, together}
 use Rattle.contraction.specs.TensorAxes.{shapeOf, Ready}
-use Rattle.contraction.proofs.Together.{every-together}
 use Rattle.questions.proofs.Ready.{AllPassed}
 use Rattle.groups.specs.declared.groups.Group.{Group as GroupCode}
 use Rattle.groups.specs.Held.{labelsIn}
-use Rattle.groups.specs.Groups.{Label, Group, inGroup, labelsWhere, group, outputs, label, size}
-use Rattle.groups.specs.Foldable.{Small, Foldable}
+use Rattle.groups.specs.Groups.{Label, Group, inGroup, labelsWhere, group, outputs, label}
+use Rattle.groups.specs.Foldable.{pointsIn, Small, Foldable}
 use Rattle.folding.specs.Fold.{fold}
 use Rattle.plan.specs.Plan.{AllFoldable}
 use Rattle.folding.proofs.Folding.{addTo, Folding, fold-start, fold-end, fold-skip, fold-add}
 
 module _ (t : Operand → Layout) (n : Operand → ℕ) (p : AllPassed t n) where
-  extent-pos : (c : ℕ) → 0 < label (shape t) c .extent
-  unfolding extentsValid
-  extent-pos c = extents-bound (together (shape t)) (every-together _ (shape t) (λ o. rw (p .each .extents o) tt)) c .0
-
   small : (c : ℕ) → Small (label (shape t) c)
   unfolding axes rankFits sizesValid
   small c =
@@ -59,11 +55,10 @@ module _ (t : Operand → Layout) (n : Operand → ℕ) (p : AllPassed t n) wher
   where-foldable q =
       let s = shape t in
       let cs = labels (together s) in
-      let e : size (labelsWhere s q) ≡ product (λ c. extentOf c (together s)) (keep q cs) = product-map (λ (l : Label). l .extent) (label s) (keep q cs) in
+      let e : pointsIn (labelsWhere s q) ≡ product (λ c. max 1 (extentOf c (together s))) (keep q cs) = product-map (λ (l : Label). max 1 (l .extent)) (label s) (keep q cs) in
       record {
-        extents = all-map (λ l. 0 < l .extent) (label s) (keep q cs) (all-of extent-pos (keep q cs));
         strides = all-map Small (label s) (keep q cs) (all-of small (keep q cs));
-        points = omega (arith, leb-true (points (together s)) productLimit (p .fit), e, product-keep (λ c. extentOf c (together s)) extent-pos q cs);
+        points = omega (arith, leb-true (points (together s)) productLimit (p .fit), e, product-keep (λ c. max 1 (extentOf c (together s))) (λ c. le-max-left 1 _) q cs);
       }
 
   pub all-foldable : AllFoldable (shape t)

@@ -13,4 +13,6 @@ label-cases =
       other-extent = refl;
       at-the-limit = refl;
       above-it = refl;
+      zero-at-the-limit = refl;
+      zero-above-it = refl;
     }

@@ -8,12 +8,15 @@ use lib.IntN.{pos}
 use Rattle.layout.specs.declared.layout.Axis.{Axis}
 use Rattle.points.specs.LabelQuestions.{extentsAgree, pointsFit}
 
--- an axis of the letter `i` or `j`
+-- an axis of the letter `i`, `j` or `k`
 abbrev i : ℕ → Axis
 i extent = record { letter = 105; extent = extent; stride = pos 1 }
 
 abbrev j : ℕ → Axis
 j extent = record { letter = 106; extent = extent; stride = pos 1 }
+
+abbrev k : ℕ → Axis
+k extent = record { letter = 107; extent = extent; stride = pos 1 }
 
 pub record LabelCases : Type 0 where
   -- "Has a letter the same extent wherever it occurs? 6"
@@ -22,3 +25,6 @@ pub record LabelCases : Type 0 where
   -- "Is the product of the extents of all different labels at most 1,073,741,824? 7": a label counts once
   pub at-the-limit : pointsFit (i 32768 ∷ j 32768 ∷ i 32768 ∷ []) ≡ true
   pub above-it : pointsFit (i 32768 ∷ j 32769 ∷ []) ≡ false
+  -- "in question 7's product an extent 0 counts as 1"
+  pub zero-at-the-limit : pointsFit (i 32768 ∷ k 0 ∷ j 32768 ∷ []) ≡ true
+  pub zero-above-it : pointsFit (i 32768 ∷ k 0 ∷ j 32769 ∷ []) ≡ false

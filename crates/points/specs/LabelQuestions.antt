@@ -1,6 +1,6 @@
 -- Questions 6 and 7, about the labels of all tensors together. Each is a test that passes or fails.
 -- Assumes nothing.
-use Prim.Native.Nat.{ℕ}
+use Prim.Native.Nat.{ℕ, max}
 use mathlib.Core.Bool.{Bool}
 use mathlib.Core.List.{List}
 use lib.Dec.{eqb, leb}
@@ -13,9 +13,9 @@ use Rattle.labels.specs.Labels.{extentOf, labels}
 unfoldable pub extentsAgree : List Axis → Bool
 extentsAgree xs = every (λ a. eqb (a .extent) (extentOf (a .letter) xs)) xs
 
--- question 7, of the axes of all tensors: is the product of the extents of all different labels at most 1,073,741,824?
+-- question 7, of the axes of all tensors: is the product of the extents of all different labels at most 1,073,741,824? An extent 0 counts as 1.
 unfoldable pub points : List Axis → ℕ
-points xs = product (λ c. extentOf c xs) (labels xs)
+points xs = product (λ c. max 1 (extentOf c xs)) (labels xs)
 
 unfoldable pub pointsFit : List Axis → Bool
 pointsFit xs = leb (points xs) productLimit

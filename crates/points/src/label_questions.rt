@@ -1,5 +1,5 @@
 ghost use mathlib.Core.Path.{_≡_};
-ghost use Prim.Native.Nat.{_+_, _*_, min, _≤_};
+ghost use Prim.Native.Nat.{_+_, _*_, min, max, _≤_};
 ghost use lib.Dec.{eqb};
 ghost use Rattle.words.specs.Sums.{every};
 ghost use Rattle.limits.specs.Limits.{rankLimit, productLimit};
@@ -35,12 +35,19 @@ pub fn extents_agree(x: Operands) -> bool
     extents_as(x, x.d.axes) & (extents_as(x, x.a.axes) & extents_as(x, x.b.axes))
 }
 
-// A product that stops growing just above the limit.
-fn capped(extent: u32, product: u64) -> u64
-    requires { ⌜ product ≤ productLimit + 1 ⌝ }
-    ensures { λ r. ⌜ r ≡ min (productLimit + 1) (extent * product) ⌝ }
+// An extent as the product of question 7 counts it.
+fn counted(extent: u32) -> u32
+    ensures { λ r. ⌜ r ≡ max 1 extent ⌝ }
 {
-    let all = (extent as u64) * product;
+    if extent == 0 { 1 } else { extent }
+}
+
+// A product that stops growing just above the limit.
+fn capped(factor: u32, product: u64) -> u64
+    requires { ⌜ product ≤ productLimit + 1 ⌝ }
+    ensures { λ r. ⌜ r ≡ min (productLimit + 1) (factor * product) ⌝ }
+{
+    let all = (factor as u64) * product;
     if all <= Limits::PRODUCT {
         all
     } else {
@@ -58,7 +65,7 @@ pub fn points_fit(x: Operands) -> bool
     let mut product: u64 = 1;
     while 0 < i {
         i -= 1;
-        product = capped(x.extent(all.letters[i]), product);
+        product = capped(counted(x.extent(all.letters[i])), product);
     }
     product <= Limits::PRODUCT
 }

@@ -5,19 +5,22 @@ use Rattle.layout.specs.Layout.{axesOf, layoutOf, axes}
 use Rattle.validity.specs.TensorQuestions.{rankFits, countsMatch, lettersValid, extentsValid, stridesValid, sizesValid}
 use Rattle.labels.specs.Labels.{labels}
 use Rattle.points.specs.LabelQuestions.{extentsAgree, points, pointsFit}
-use Rattle.entries.specs.EntryQuestions.{span, inside, below, apart}
+use Rattle.entries.specs.EntryQuestions.{hasEntries, span, inside, below, stridesApart, apart}
 use Rattle.contraction.specs.Operands.{together}
 use Rattle.tensor_answers.specs.OwnQuestions.{tensorQuestions}
 use Rattle.questions.specs.Questions.{labelQuestions, entryQuestions, layoutQuestions}
 use Rattle.questions.specs.QuestionCases.{QuestionCases}
 
 pub question-cases : QuestionCases
-unfolding axesOf layoutOf axes rankFits countsMatch lettersValid extentsValid stridesValid sizesValid labels extentsAgree points pointsFit span inside below apart together tensorQuestions labelQuestions entryQuestions layoutQuestions
+unfolding axesOf layoutOf axes rankFits countsMatch lettersValid extentsValid stridesValid sizesValid labels extentsAgree points pointsFit hasEntries span inside below stridesApart apart together tensorQuestions labelQuestions entryQuestions layoutQuestions
 question-cases =
     record {
       accepted = refl;
       each-3 = refl;
       each-8 = refl;
+      none-8 = refl;
+      none-5 = refl;
+      beside-8 = refl;
       base-5 = refl;
       agree-6 = refl;
       points-7 = refl;

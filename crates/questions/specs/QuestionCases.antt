@@ -41,6 +41,10 @@ pub record QuestionCases : Type 0 where
   -- 1 to 5 and 8 are put to A, to B and to D: a digit as a letter, and a slice without words
   pub each-3 : ofEach (layoutOf (codes "1") (1 ∷ []) still 0) 1 ≡ 3 ∷ 3 ∷ 3 ∷ []
   pub each-8 : ofEach (layoutOf (codes "i") (1 ∷ []) still 0) 0 ≡ 8 ∷ 8 ∷ 8 ∷ []
+  -- a tensor with an extent 0 "passes 8 whatever its slice, and as D passes 9", with its base outside and no words; 5 is asked of it, and 8 of the others
+  pub none-8 : ofEach (layoutOf (codes "ij") (0 ∷ 2 ∷ []) (pos 1 ∷ still) 5) 0 ≡ 0 ∷ 0 ∷ 0 ∷ []
+  pub none-5 : ofEach (layoutOf (codes "i") (0 ∷ []) still 16777217) 0 ≡ 5 ∷ 5 ∷ 5 ∷ []
+  pub beside-8 : refusal (layoutQuestions (three (layoutOf (codes "i") (0 ∷ []) still 0) scalar scalar) (three 0 0 1)) ≡ 8
   pub base-5 : ofA (layoutOf (codes "ii") (2 ∷ 3 ∷ []) ones 16777217) 1 ≡ 5  -- a base too large, two extents of one letter
   pub agree-6 : ofA (layoutOf (codes "iij") (32768 ∷ 3 ∷ 65536 ∷ []) (pos 0 ∷ ones) 0) 1 ≡ 6  -- two extents of one letter, too many points
   pub points-7 : ofA (layoutOf (codes "ij") (32768 ∷ 32769 ∷ []) ones 0) 1 ≡ 7  -- too many points, entries outside

@@ -12,7 +12,7 @@ use Rattle.offsets.specs.Counts.{offsetIn}
 use Rattle.offsets.specs.declared.offsets.Offsets.{Offsets}
 use Rattle.offsets.specs.Offsets.{wordsIn, Words}
 use Rattle.offsets.specs.FirstLabel.{firstLabel}
-use Rattle.offsets.proofs.Runs.{first-long, offset-run}
+use Rattle.offsets.proofs.Runs.{offset-run}
 use Rattle.sums.specs.declared.walk.Walk.{Walk}
 use Rattle.sums.specs.Walk.{stepped, reached, Walks}
 
@@ -21,16 +21,12 @@ step-word : (x y z : ℕ) → word 64 (word 64 (x + word 64 y) + z) ≡ word 64 
 step-word x y z = omega arith
 
 module _ (g : List Label) (w : Walk) (k : Walks g w) where
-  -- there is a count in each run
-  pub run-long : 0 < w .len
-  run-long = omega (arith, k .len, first-long g (k .foldable))
-
   -- a count of a run is one of the group's
   pub run-below : (m v : ℕ) → m < w .runs → v < w .len → w .len * m + v < size g
   run-below m v h i = omega (arith, k .counts, mul-le-mul-left (w .len) h)
 
   pub run-starts : {m : ℕ} → m < w .runs → w .len * m < size g
-  run-starts {m} h = omega (arith, run-below m 0 h run-long)
+  run-starts {m} h = omega (arith, run-below m 0 h (k .long (omega arith)))
 
   -- v steps from where run m begins is the group's place
   step-place : (o : Operand) (x m v : ℕ) → v < w .len

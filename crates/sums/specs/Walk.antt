@@ -1,17 +1,16 @@
 -- Walks of a group in runs, and the sums along them, by address words. Inside contracts only.
 -- Assumes nothing.
-use Prim.Native.Nat.{ℕ, _+_, _*_, _≤_}
+use Prim.Native.Nat.{ℕ, _+_, _*_, _≤_, _<_}
 use mathlib.Core.Path.{_≡_}
 use mathlib.Core.List.{List}
 use lib.ListN.{length, getD}
 use Rattle.words.specs.Sums.{sumTo}
 use Rattle.words.specs.Words.{word, wordOf}
 use Rattle.words.specs.Loops.{Within}
-use Rattle.limits.specs.Limits.{axesLimit}
+use Rattle.limits.specs.Limits.{axesLimit, productLimit}
 use Rattle.contraction.specs.Operands.{Operand, A, B}
 use Rattle.groups.specs.Groups.{Label, size}
 use Rattle.groups.specs.Held.{labelsIn}
-use Rattle.groups.specs.Foldable.{Foldable}
 use Rattle.offsets.specs.Counts.{offsetIn}
 use Rattle.offsets.specs.declared.offsets.Offsets.{Offsets}
 use Rattle.offsets.specs.Offsets.{wordsIn}
@@ -66,7 +65,8 @@ over w = labelsIn (w .group)
 pub record Walks (g : List Label) (w : Walk) : Type 0 where
   pub labels : over w ≡ g
   pub few : w .group .count ≤ axesLimit
-  pub foldable : Foldable g
+  pub small : size g ≤ productLimit
   pub len : w .len ≡ firstLabel g .extent
   pub step : (o : Operand) → wordsIn (w .step) o ≡ wordOf 64 (firstLabel g .stride o)
   pub counts : size g ≡ w .len * w .runs
+  pub long : 0 < w .runs → 0 < w .len  -- no run is without a count

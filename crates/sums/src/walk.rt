@@ -7,7 +7,7 @@ use groups::groups::Group;
 use offsets::first_label::FirstLabel;
 use offsets::offsets::Offsets;
 
-// A group and how its counts are walked: in runs of its first label, `len` counts each, one step apart.
+// A group and how its counts are walked: in runs of its first label, `len` counts each, one step apart. Where that label has extent 0 there is no run.
 pub struct Walk {
     pub group: Group,
     pub step: Offsets,
@@ -21,7 +21,13 @@ pub fn walk_of(g: Group) -> Walk
 {
     let label = FirstLabel::of(g);
     let step = label.step;
-    let runs = if g.count == 0 { 1 } else { g.size_from(1) };
+    let runs = if label.len == 0 {
+        0
+    } else if g.count == 0 {
+        1
+    } else {
+        g.size_from(1)
+    };
     Walk {
         group: g,
         step,

@@ -24,7 +24,7 @@ still = pos 0 ∷ []
 pub record OwnQuestionCases : Type 0 where
   pub rank-1 : of (layoutOf (codes "abcdefghi") [] [] 0) 1 ≡ 1  -- nine letters, no extents
   pub counts-2 : of (layoutOf (codes "1") (1 ∷ []) [] 0) 1 ≡ 2  -- no stride, a digit as a letter
-  pub letter-3 : of (layoutOf (codes "1") (0 ∷ []) still 0) 1 ≡ 3  -- a digit as a letter, extent 0
-  -- "Asked in this order": a question is put to all tensors before the next one. Extent 0 in A, a digit as a letter in B
-  pub across-tensors : both (layoutOf (codes "i") (0 ∷ []) still 0) (layoutOf (codes "1") (1 ∷ []) still 0) ≡ 3
-  pub extent-4 : of (layoutOf (codes "i") (0 ∷ []) still 16777217) 1 ≡ 4  -- extent 0, a base too large
+  pub letter-3 : of (layoutOf (codes "1") (65537 ∷ []) still 0) 1 ≡ 3  -- a digit as a letter, extent 65,537
+  -- "Asked in this order": a question is put to all tensors before the next one. Extent 65,537 in A, a digit as a letter in B
+  pub across-tensors : both (layoutOf (codes "i") (65537 ∷ []) still 0) (layoutOf (codes "1") (1 ∷ []) still 0) ≡ 3
+  pub extent-4 : of (layoutOf (codes "i") (65537 ∷ []) still 16777217) 1 ≡ 4  -- extent 65,537, a base too large

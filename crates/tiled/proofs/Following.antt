@@ -32,7 +32,7 @@ use Rattle.tiled.proofs.Demand3.{count-le, words-closed, demand3}
 
 module _ (G : Cut) (t h i j : ℕ) where
   -- old: the first is not done
-  old-first : (stateAt G t h i j ≡ old) ↔ (done G t h i j 0 ≡ false)
+  pub old-first : (stateAt G t h i j ≡ old) ↔ (done G t h i j 0 ≡ false)
   old-first = (λ e. old-none G h i j t .0 e 0 (KB-pos G), λ e. old-none G h i j t .1 (λ p b. none e p (done G t h i j p) refl))
     where
       none : done G t h i j 0 ≡ false → (p : ℕ) (x : Bool) → done G t h i j p ≡ x → x ≡ false
@@ -40,7 +40,7 @@ module _ (G : Cut) (t h i j : ℕ) where
       none e p true f = sym (done-down G h i j t 0 p zero-le f) ∙ e
 
   -- final: the last is
-  final-last : (stateAt G t h i j ≡ final) ↔ (done G t h i j (KB G - 1) ≡ true)
+  pub final-last : (stateAt G t h i j ≡ final) ↔ (done G t h i j (KB G - 1) ≡ true)
   final-last = (
     λ e. final-all G h i j t .0 e (KB G - 1) (omega (arith, KB-pos G)),
     λ e. final-all G h i j t .1 (λ p b. done-down G h i j t p (KB G - 1) (omega arith) e),
@@ -67,7 +67,7 @@ module _ (c : Contraction) (z : Sizes) (a b d : List ℕ) (ok : Accepted c z (th
   one-count n work h e = rw e (omega (arith, h))
 
   -- questions 1 to 9 pass, and 10
-  passes : AllPassed (tensors c) (λ o. length (three a b d o)) × (sizesFit z ≡ true)
+  pub passes : AllPassed (tensors c) (λ o. length (three a b d o)) × (sizesFit z ≡ true)
   passes = accepted c z (three a b d) (ok .passed)
 
   as-result : (calls : List Call) → count c z calls 0 ≡ total (cutOf c z) → run c z a b calls 0 d .words ≡ result c (three a b d)

@@ -1,2 +1,3 @@
 pub mod TileCall
 pub mod Demand3
+pub mod EmptyTiles

@@ -2,19 +2,20 @@
 -- One more panel adds alpha times its own sum, modulo 2 ^ 32. All panels together hold each depth count once, so their sums make the direct sum.
 -- Assumes nothing.
 use mathlib.Core.Path.{_≡_, refl, sym, ap, _∙_}
-use mathlib.Core.Bool.{Bool, cond}
+use mathlib.Core.Bool.{Bool, true, false, cond}
 use mathlib.Core.List.{List, [], _∷_, _++_}
-use Prim.Native.Nat.{ℕ, zero, suc, _+_, _*_, _<_, _≤_}
+use Prim.Native.Nat.{ℕ, zero, suc, _+_, _-_, _*_, _<_, _≤_, min}
 use native.Mathlib.Nat.{not-suc-le-zero, zero-lt-suc, le-trans, le-max-right, mul-le-mul-right, min-eq-right, mul-add, add-assoc, zero-add, suc-ne-zero}
+use native.Mathlib.Omega.{arith}
 use borrow.Author.Tests.{lt-ltb, ne-eqb}
 use Rattle.words.specs.Sums.{sumTo}
 use Rattle.words.specs.Lists.{tabulate}
 use Rattle.words.specs.Words.{word}
-use Rattle.words.proofs.Sums.{sumTo-ext}
+use Rattle.words.proofs.Sums.{sumTo-ext, sumTo-zero}
 use Rattle.words.proofs.Tabulate.{tabulate-suc}
 use Rattle.words.proofs.Modular.{word-add-left}
 use Rattle.tiles.specs.Cut.{blocks, KB}
-use Rattle.tiles.specs.Progress.{final, stateAt}
+use Rattle.tiles.specs.Progress.{final, done, stateAt}
 use Rattle.tiles.specs.TileWalk.{after}
 use Rattle.tiles.specs.Setting.{Setting, panelSum, doneSum, wordAt, addPanel}
 use Rattle.tiles.proofs.Cuts.{blocks-cover, sumTo-below, sumTo-panels}
@@ -64,6 +65,15 @@ module _ (S : Setting) (h i j : ℕ) where
       ∙ after-append (λ p. addPanel S p h i j) (tabulate q (λ k. k)) (q ∷ []) w
       ∙ ap (addPanel S q h i j) (first-words q w)
       ∙ word-add q w
+
+  -- with depth size 0 no panel has a term
+  pub none-summed : cut .K ≡ 0 → (t : ℕ) → doneSum S t h i j ≡ 0
+  unfolding doneSum panelSum sumTo
+  none-summed e t = sumTo-ext (KB cut) (λ p b. go p (done cut t h i j p)) ∙ sumTo-zero (KB cut)
+    where
+      go : (p : ℕ) (b : Bool) → cond b (panelSum S h i j p) 0 ≡ 0
+      go p true = let z : min ((p + 1) * cut .depth) (cut .K) - p * cut .depth ≡ 0 = omega (arith, e) in ap (λ (n : ℕ). sumTo n (λ k. term h i j (p * cut .depth + k))) z
+      go p false = refl
 
   -- after all panels, the sum over the whole depth
   sum-all : 0 < cut .depth → sumTo (KB cut) (panelSum S h i j) ≡ sumTo (cut .K) (term h i j)

@@ -1,15 +1,16 @@
--- How large the numbers of a cut in its limits get, and where its tiles begin. A group of n counts has at most n blocks, so a product of the
--- batch size and block counts is at most the product of the sizes, each taken as 1 where it is 0, and that is at most the limit.
+-- How large the numbers of a cut in its limits get, and where its tiles begin; there is a tile just where there is an output index. A group of n counts
+-- has at most n blocks, so a product of the batch size and block counts is at most the product of the sizes, each taken as 1 where it is 0, and that is at
+-- most the limit.
 -- Assumes nothing.
-use Prim.Native.Nat.{ℕ, zero, suc, _+_, _-_, _*_, _<_, _≤_, max}
+use Prim.Native.Nat.{ℕ, zero, suc, _+_, _-_, _*_, _/_, _<_, _≤_, max}
 use native.Mathlib.Nat.{le-trans, lt-of-lt-of-le, le-max-left, le-max-right, max-le, mul-le-mul, mul-pos, le-mul-of-pos-right, le-div-iff-mul-le}
 use native.Mathlib.Omega.{arith}
 use lib.Arith.{digits-lt}
 use Rattle.limits.specs.Limits.{productLimit}
-use Rattle.tiles.specs.Cut.{Cut, blocks, MB, NB, KB, total, batchOf, columnOf, panelOf, rowOf}
+use Rattle.tiles.specs.Cut.{Cut, blocks, InSizes, MB, NB, KB, total, batchOf, columnOf, panelOf, rowOf}
 use Rattle.tiles.specs.Grid.{Fits}
-use Rattle.tiles.proofs.Cuts.{blocks-le}
-use Rattle.tiles.proofs.Numbering.{InTiles, tile-of}
+use Rattle.tiles.proofs.Cuts.{block-lt, blocks-le}
+use Rattle.tiles.proofs.Numbering.{InTiles, KB-pos, number-lt, tile-of}
 
 -- ---- where a block begins
 
@@ -23,6 +24,28 @@ panel-begins {n} {b} {p = zero} pos l = omega arith
 panel-begins {n} {b} {p = suc p} pos l =
     let m : suc p < blocks n b = omega arith in
     omega (arith, block-begins pos m)
+
+-- ---- a tile and an index
+
+module _ (G : Cut) (rows-pos : 0 < G .rows) (cols-pos : 0 < G .cols) where
+  open Cut G using (rows, cols)
+
+  -- an output index lies in a tile
+  pub index-has-tile : {h i j : ℕ} → InSizes G h i j → 0 < total G
+  unfolding MB NB
+  index-has-tile {h} {i} {j} ix =
+      omega (
+        arith,
+        number-lt G {h = h} {c = j / cols} {p = 0} {r = i / rows}
+            (record { batch = ix .0; column = block-lt cols-pos (ix .2); panel = KB-pos G; row = block-lt rows-pos (ix .1) }),
+      )
+
+  -- the first tile begins at counts 0
+  pub tile-has-index : 0 < total G → InSizes G 0 0 0
+  unfolding MB NB
+  tile-has-index b =
+      let at = tile-of G 0 b in
+      (omega (arith, at .batch), omega (arith, block-begins rows-pos (at .row)), omega (arith, block-begins cols-pos (at .column)))
 
 -- ---- how large
 

@@ -18,6 +18,9 @@ tile-cases =
       number = refl;
       tile-34 = refl;
       state-by-state = refl;
+      empty-depth = refl;
+      old-then-final = refl;
+      no-tiles = refl;
       panels-listed = refl;
       in-order = refl;
     }

@@ -20,4 +20,5 @@ work-cases =
       edge = refl;
       none-run = refl;
       last-listed = refl;
+      empty-depth = refl;
     }

@@ -13,13 +13,17 @@ use Rattle.meaning.specs.Meaning.{Slices}
 use Rattle.tiles.specs.declared.grid.Sizes.{Sizes}
 use Rattle.tiling.specs.Work.{workAfter}
 
-abbrev product : Contraction
-product =
+-- the product over an extent of k
+abbrev over : ℕ → Contraction
+over k =
     contractionOf
-    (layoutOf (codes "ik") (3 ∷ 3 ∷ []) (pos 1 ∷ pos 3 ∷ []) 0)
-    (layoutOf (codes "kj") (3 ∷ 2 ∷ []) (pos 1 ∷ pos 3 ∷ []) 0)
+    (layoutOf (codes "ik") (3 ∷ k ∷ []) (pos 1 ∷ pos 3 ∷ []) 0)
+    (layoutOf (codes "kj") (k ∷ 2 ∷ []) (pos 1 ∷ pos 3 ∷ []) 0)
     (layoutOf (codes "ij") (3 ∷ 2 ∷ []) (pos 1 ∷ pos 3 ∷ []) 0)
     5 1
+
+abbrev product : Contraction
+product = over 3
 
 abbrev sizes : Sizes
 sizes = record { rows = 2; cols = 3; depth = 2 }
@@ -41,3 +45,5 @@ pub record WorkCases : Type 0 where
   pub none-run : workAfter product sizes slices [] before ≡ before
   -- the last tile is the last of the list, whatever its number: here tile 0, of row counts 0 and 1, both columns and depth counts 0 and 1
   pub last-listed : workAfter product sizes slices (1 ∷ 3 ∷ 2 ∷ 0 ∷ []) before ≡ 1 ∷ 2 ∷ 4 ∷ 5 ∷ 11 ∷ 14 ∷ 0 ∷ 12 ∷ 15 ∷ 0 ∷ 99 ∷ []
+  -- "Depth size 0 counts as one panel with no terms": both blocks are all past the edge
+  pub empty-depth : workAfter (over 0) sizes slices (0 ∷ []) before ≡ 0 ∷ 0 ∷ 0 ∷ 0 ∷ 0 ∷ 0 ∷ 0 ∷ 0 ∷ 0 ∷ 0 ∷ 99 ∷ []

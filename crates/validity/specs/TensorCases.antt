@@ -39,10 +39,9 @@ pub record TensorCases : Type 0 where
   pub after-Z : lettersValid (named (codes "[")) ≡ false
   pub before-a : lettersValid (named (codes "`")) ≡ false
   pub after-z : lettersValid (named (codes "a{")) ≡ false
-  -- "Is every extent 1 to 65,536? 4"
-  pub extent-1 : extentsValid (axis 1 (pos 1)) ≡ true
+  -- "Extents become 0 to 65,536 and question 4 asks that"
+  pub extent-0 : extentsValid (axis 0 (pos 1)) ≡ true
   pub extent-65536 : extentsValid (axis 65536 (pos 1)) ≡ true
-  pub extent-0 : extentsValid (axis 0 (pos 1)) ≡ false
   pub extent-65537 : extentsValid (axis 65537 (pos 1)) ≡ false
   -- "Is every stride from -16,777,216 to 16,777,216, every base at most 16,777,216, every tensor's slice at most 16,777,216 words? 5"
   pub stride-up : stridesValid (axis 1 (pos 16777216)) ≡ true

@@ -24,9 +24,9 @@ countsMatch l = eqb (l .«extent_count») (l .«letter_count») && eqb (l .«str
 unfoldable pub lettersValid : List Axis → Bool
 lettersValid xs = every (λ a. isLetter (a .letter)) xs
 
--- question 4: is every extent 1 to 65,536?
+-- question 4: is every extent 0 to 65,536?
 unfoldable pub extentsValid : List Axis → Bool
-extentsValid xs = every (λ a. leb 1 (a .extent) && leb (a .extent) extentLimit) xs
+extentsValid xs = every (λ a. leb (a .extent) extentLimit) xs
 
 -- question 5: is every stride from -16,777,216 to 16,777,216, the base at most 16,777,216, the slice at most 16,777,216 words?
 unfoldable pub stridesValid : List Axis → Bool

@@ -50,7 +50,7 @@ impl Valid {
     {
         Valid {
             letters: is_letter(a.letter) & self.letters,
-            extents: ((1 <= a.extent) & (a.extent <= Limits::EXTENT)) & self.extents,
+            extents: (a.extent <= Limits::EXTENT) & self.extents,
             strides: stride_valid(a.stride) & self.strides,
         }
     }

@@ -2,10 +2,10 @@
 -- Assumes nothing.
 use mathlib.Core.Path.{_≡_, refl, sym}
 use mathlib.Core.List.{List, [], _∷_, _++_, map}
-use mathlib.Core.Bool.{Bool, true, false, _&&_}
+use mathlib.Core.Bool.{Bool, true, false, not, _&&_, _||_}
 use lib.Dec.{T}
 use Prim.Native.Nat.{ℕ, zero, suc, _+_, _*_, _≤_, _<_}
-use native.Mathlib.Nat.{add-zero, add-suc, add-assoc, mul-zero, mul-suc, mul-le-mul-left, mul-le-mul-right}
+use native.Mathlib.Nat.{add-zero, add-suc, add-assoc, mul-zero, mul-suc, mul-pos, mul-le-mul, mul-le-mul-left, mul-le-mul-right}
 use native.Mathlib.Omega.{arith}
 use lib.ListN.{drop}
 use Rattle.words.specs.Sums.{sumOf, product, sumTo, every, All}
@@ -40,7 +40,7 @@ unfolding sumTo
 sumTo-mul e zero f = simp mul-zero
 sumTo-mul e (suc s) f = simp (mul-suc, sumTo-add, sumTo-mul e s f)
 
-sumTo-zero : (n : ℕ) → sumTo n (λ i. 0) ≡ 0
+pub sumTo-zero : (n : ℕ) → sumTo n (λ i. 0) ≡ 0
 unfolding sumTo
 sumTo-zero zero = refl
 sumTo-zero (suc n) = omega (arith, sumTo-zero n)
@@ -64,10 +64,23 @@ pub and-join : (a b : Bool) → T a → T b → T (a && b)
 and-join true b t u = u
 and-join false b t u = t
 
+-- a test that is asked where another passes
+pub where-split : (a b : Bool) → T (not a || b) → T a → T b
+where-split true b t u = t
+where-split false b t u = absurd u
+
+pub where-join : (a b : Bool) → (T a → T b) → T (not a || b)
+where-join true b f = f tt
+where-join false b f = tt
+
 -- a test that passes at every member passes at each
 pub every-all : {X : Type 0} (p : X → Bool) (xs : List X) → T (every p xs) → All (λ x. T (p x)) xs
 every-all p [] t = tt
 every-all p (x ∷ xs) t = let h = and-split (p x) (every p xs) t in (h .0, every-all p xs (h .1))
+
+pub all-every : {X : Type 0} (p : X → Bool) (xs : List X) → All (λ x. T (p x)) xs → T (every p xs)
+all-every p [] h = tt
+all-every p (x ∷ xs) h = and-join (p x) (every p xs) (h .0) (all-every p xs (h .1))
 
 -- a test that passes at every member passes at every member from a place on
 pub every-drop : {X : Type 0} (p : X → Bool) (i : ℕ) (xs : List X) → T (every p xs) → T (every p (drop i xs))
@@ -98,6 +111,14 @@ module _ {X : Type 0} (f : X → ℕ) where
       go : (b : Bool) → product f (keep p xs) ≤ product f xs → product f (cons-if b x (keep p xs)) ≤ f x * product f xs
       go true r = mul-le-mul-left (f x) r
       go false r = omega (arith, r, mul-le-mul-right (product f xs) (h x))
+
+  pub product-pos : ((x : X) → 0 < f x) → (xs : List X) → 0 < product f xs
+  product-pos h [] = omega arith
+  product-pos h (x ∷ xs) = mul-pos (h x) (product-pos h xs)
+
+  pub product-le : (h : X → ℕ) → ((x : X) → f x ≤ h x) → (xs : List X) → product f xs ≤ product h xs
+  product-le h e [] = omega arith
+  product-le h e (x ∷ xs) = mul-le-mul (e x) (product-le h e xs)
 
   pub product-map : {Y : Type 0} (h : Y → X) (ys : List Y) → product f (map h ys) ≡ product (λ y. f (h y)) ys
   product-map h [] = refl

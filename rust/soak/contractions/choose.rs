@@ -66,12 +66,12 @@ impl Bounds {
         }
     }
 
-    /// Mostly in range. Once in eight one of the three counts is outside.
+    /// Mostly in range. Once in eight one of the three counts is outside. Of a group of size 0 every count is.
     pub fn index(&self, rng: &mut Rng) -> OutputIndex {
         let sizes = [self.batch, self.row, self.column];
         let mut counts = sizes.map(|size| {
-            let any = rng.below(size as usize) as u64;
-            rng.pick(&[0, any, any, size - 1])
+            let any = rng.below(size.max(1) as usize) as u64;
+            rng.pick(&[0, any, any, size.saturating_sub(1)])
         });
         if rng.once_in(8) {
             let which = rng.below(3);

@@ -6,7 +6,7 @@ use super::choose::{self, Bounds};
 use crate::common::case::{same_words, Case, Outcome};
 use crate::common::lent::Lent;
 use crate::common::panels::Model;
-use crate::common::questions::{state_after, tiles_after};
+use crate::common::questions::{first_ten_after, state_after, tiles_after};
 use crate::common::request::{Ran, Request};
 use crate::common::rng::Rng;
 use crate::common::tile_call::same;
@@ -35,7 +35,7 @@ impl<'a> List<'a> {
     pub fn new(case: &Case, first_nine: u32, rng: &'a mut Rng, figures: &'a mut Figures) -> Self {
         let (sizes, index) = (choose::sizes(rng), OutputIndex::new(0, 0, 0));
         let mut request = Request { case: case.clone(), sizes, done: 0, budget: 0, work: Vec::new(), index };
-        let model = (state_after(first_nine, &request) == 0).then(|| Model::of(case, sizes));
+        let model = (first_ten_after(first_nine, sizes) == 0).then(|| Model::of(case, sizes));
         let bounds = Bounds::of(model.as_ref());
         let start = bounds.start(rng);
         request.done = start;
@@ -106,7 +106,7 @@ impl<'a> List<'a> {
         let expected = self.expected_state();
         let found = calls::state(&self.lent, &self.request, self.rng);
         assert_eq!(found, expected, "the state by {:?}", self.request);
-        self.figures.note_state(found);
+        self.figures.note_state(found, self.model.as_ref().map(|model| &model.cut));
         self.request.done = of_list;
     }
 

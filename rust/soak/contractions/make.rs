@@ -3,7 +3,7 @@
 use crate::common::case::{Case, Tensor};
 use crate::common::job_model::terms;
 use crate::common::make::{accepted, spoil, Kind};
-use crate::common::questions::first_no;
+use crate::common::questions::{first_no, product};
 use crate::common::rng::Rng;
 
 /// A contraction that is accepted has at most so many terms.
@@ -43,10 +43,10 @@ fn damage(rng: &mut Rng, case: &mut Case) {
     }
 }
 
-/// Two more labels, so that the product of all extents is at the limit of question 7 or just over it. Question 8 refuses
-/// where 7 does not.
+/// Two more labels, so that the product of all extents is at the limit of question 7 or just over it. Question 8
+/// refuses where 7 does not, unless the tensor has no entries.
 fn fill_product(rng: &mut Rng, case: &mut Case, which: usize) {
-    let room = ((1 << 30) / terms(case).max(1)) as u32;
+    let room = product(case).map_or(0, |product| ((1 << 30) / product) as u32);
     let first = if room < 16_384 { 1 } else { 16_384 };
     let t = case.tensor_mut(which);
     t.push(b'y', first, 1);

@@ -3,12 +3,14 @@
 use crate::common::case::{Case, Tensor};
 use crate::common::groups::{Cut, Group, Groups};
 use crate::common::notes::{note_factors, note_labels, note_strides};
+use crate::common::notes_empty::note_empty;
 use crate::common::seen::Seen;
 
 pub fn note_contraction(seen: &mut Seen, case: &Case) {
     note_factors(seen, case);
     note_labels(seen, case);
     note_strides(seen, case);
+    note_empty(seen, case);
     for (name, t) in ["A", "B", "D"].iter().zip(case.tensors()) {
         seen.note(&format!("base above 0 in {name}"), t.base > 0);
     }
@@ -22,10 +24,15 @@ pub fn note_cut(seen: &mut Seen, case: &Case, cut: &Cut) {
     seen.note("last row block shorter", cut.row % cut.tile_rows != 0);
     seen.note("last column block shorter", cut.column % cut.tile_cols != 0);
     seen.note("last panel shorter", cut.depth % cut.tile_depth != 0);
+    seen.note("one panel with no terms", cut.depth == 0 && cut.total() > 0);
+    seen.note("several tiles, each with no terms", cut.depth == 0 && cut.total() > 1);
+    seen.note("no tiles", cut.total() == 0);
     seen.note("full block of 64 rows", cut.tile_rows == 64 && cut.row >= 64);
     seen.note("full block of 64 columns", cut.tile_cols == 64 && cut.column >= 64);
     seen.note("full panel of depth 128", cut.tile_depth == 128 && cut.depth >= 128);
-    note_blocks(seen, case, cut);
+    if cut.total() > 0 {
+        note_blocks(seen, case, cut);
+    }
 }
 
 fn note_blocks(seen: &mut Seen, case: &Case, cut: &Cut) {

@@ -4,6 +4,7 @@ pub mod document;
 mod tables;
 
 use crate::common::case::Outcome;
+use crate::common::groups::Cut;
 use crate::common::request::{work_needed, Ran, Request};
 use crate::common::seen::Seen;
 use std::collections::BTreeSet;
@@ -46,11 +47,16 @@ impl Figures {
         self.calls.add("words of D compared", found.words.len());
     }
 
-    pub fn note_state(&mut self, found: Result<u32, u32>) {
+    /// The answer to a state question. A contraction that is refused is not cut.
+    pub fn note_state(&mut self, found: Result<u32, u32>, cut: Option<&Cut>) {
         self.state[found.err().unwrap_or(0) as usize] += 1;
         for (number, name) in ["old", "part", "final"].iter().enumerate() {
             self.calls.note(&format!("states that were {name}"), found == Ok(number as u32));
         }
+        let (no_tiles, no_terms) = cut.map_or((false, false), |cut| (cut.total() == 0, cut.depth == 0));
+        self.calls.note("state questions refused by 13 where there are no tiles", no_tiles && found == Err(13));
+        self.calls.note("states that were old with depth size 0", no_terms && found == Ok(0));
+        self.calls.note("states that were final with depth size 0", no_terms && found == Ok(2));
     }
 
     pub fn note_run(&mut self, r: &Request, found: &Ran, total: u64) {
@@ -70,7 +76,9 @@ impl Figures {
         calls.note("tile calls with a budget of what was left", r.budget == left && left > 0);
         calls.note("tile calls with a budget over what was left", r.budget > left && left > 0);
         calls.note("tile calls with budget 2^64 - 1", r.budget == u64::MAX);
-        calls.note("tile calls after the last tile", left == 0);
+        calls.note("tile calls after the last tile", left == 0 && total > 0);
+        calls.note("tile calls where there are no tiles", total == 0);
+        calls.note("tile calls with a budget where there are no tiles", total == 0 && r.budget > 0);
         calls.note("tile calls with an exact work slice", r.work.len() as u128 == needed);
         calls.note("tile calls with a longer work slice", r.work.len() as u128 > needed);
     }

@@ -2,7 +2,7 @@
 
 use super::{Answers, Figures, FILE, PLAIN, STATE, TILE};
 use crate::common::seen::Seen;
-use crate::jobs::Files;
+use crate::jobs::{Files, ACCEPTED, MARKED};
 use crate::settings::Settings;
 use crate::workers::THREADS;
 use std::collections::BTreeMap;
@@ -96,9 +96,9 @@ fn damages(files: &Files, figures: &Figures) -> String {
 }
 
 fn texts(figures: &Figures) -> String {
-    let names = FILE.iter().map(|number| format!("refused {number}"));
-    let names: Vec<String> = ["accepted".to_string()].into_iter().chain(names).collect();
-    let words = figures.texts.counts().filter(|(name, _)| name.starts_with("words"));
-    let answers = names.iter().map(|name| (name.as_str(), figures.texts.count(name)));
-    table_of(["answers of the program", "count"], answers.chain(words))
+    let refused = FILE.iter().map(|number| format!("refused {number}"));
+    let of_names = |names: [&str; 4]| names.map(str::to_string);
+    let names: Vec<String> = of_names(ACCEPTED).into_iter().chain(refused).chain(of_names(MARKED)).collect();
+    let counts = names.iter().map(|name| (name.as_str(), figures.texts.count(name)));
+    table_of(["answers of the program", "count"], counts)
 }

@@ -1,7 +1,9 @@
-//! The job files that are damaged: the examples, jobs that one question refuses, and random ones.
+//! The job files that are damaged: the examples, jobs that one question refuses, and random ones, also with sums over
+//! no values and with no tiles.
 
 use crate::common::broken::{sound_request, ways};
 use crate::common::flaws::Records;
+use crate::common::groups::Groups;
 use crate::common::job::Job;
 use crate::common::job_make::accepted_job;
 use crate::common::job_model::{answer, read};
@@ -17,15 +19,24 @@ const LENGTH: usize = 300;
 const FEW: Kind = Kind { labels: 5, extents: &[1, 2, 2, 3], terms: 24, aligned: false };
 const MANY: Kind = Kind { labels: 20, extents: &[1, 1, 1, 2], terms: 8, aligned: false };
 
-/// What stands in an answer with words of every sort.
-const ALL_LETTERS: [&str; 4] = [" o\n", " p\n", " f\n", " -\n"];
-
 pub fn bases(rng: &mut Rng) -> Vec<Records> {
     let mut bases = examples();
     bases.extend([3, 4, 5, 6, 7, 8, 9, 10, 12].map(|number| refused(rng, number)));
-    bases.extend([FEW, FEW, FEW, MANY, MANY].map(|kind| random(rng, &kind, &[])));
-    bases.extend([FEW, FEW].map(|kind| random(rng, &kind, &ALL_LETTERS)));
+    bases.extend([FEW, FEW, FEW, MANY, MANY].map(|kind| random(rng, &kind, |_, _| true)));
+    bases.extend([FEW, FEW].map(|kind| random(rng, &kind, |_, text| has_all(text, &[" o\n", " p\n", " f\n", " -\n"]))));
+    bases.extend([FEW, MANY].map(|kind| random(rng, &kind, has_no_terms)));
+    bases.extend([FEW, MANY].map(|kind| random(rng, &kind, |_, text| has_all(text, &["tiles 0 of 0\n", " -\n"]))));
+    bases.push(random(rng, &FEW, |_, text| text == "tiles 0 of 0\n"));
     bases
+}
+
+fn has_all(text: &str, parts: &[&str]) -> bool {
+    parts.iter().all(|part| text.contains(part))
+}
+
+/// Sums over no values, with some of the outputs done.
+fn has_no_terms(job: &Job, text: &str) -> bool {
+    Groups::of(&job.case).depth.size() == 0 && has_all(text, &[" o\n", " f\n"])
 }
 
 /// The records of each example.
@@ -52,12 +63,9 @@ fn refused(rng: &mut Rng, number: u32) -> Records {
     Job::of(&request).records()
 }
 
-/// A short random job whose answer has all of these.
-fn random(rng: &mut Rng, kind: &Kind, wanted: &[&str]) -> Records {
-    let fits = |file: &[u8]| {
-        let text = answer(file);
-        file.len() <= LENGTH && wanted.iter().all(|part| text.contains(part))
-    };
-    let mut jobs = std::iter::repeat_with(|| accepted_job(rng, kind).records());
-    jobs.find(|records| fits(&records.concat())).expect("a job that fits")
+/// A short random job that, with its answer, is one of those wanted.
+fn random(rng: &mut Rng, kind: &Kind, is_wanted: fn(&Job, &str) -> bool) -> Records {
+    let fits = |job: &Job| job.file().len() <= LENGTH && is_wanted(job, &answer(&job.file()));
+    let mut jobs = std::iter::repeat_with(|| accepted_job(rng, kind));
+    jobs.find(fits).expect("a job that fits").records()
 }

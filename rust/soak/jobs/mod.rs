@@ -5,12 +5,22 @@ mod mutants;
 mod random;
 
 use crate::common::flaws::Records;
-use crate::common::job_model::{answer, is_long};
+use crate::common::groups::{Cut, Groups};
+use crate::common::job::Job;
+use crate::common::job_model::{answer, is_long, read};
 use crate::common::program::{run, same};
 use crate::common::rng::Rng;
+use crate::common::seen::Seen;
 use crate::common::temp_file::TempFile;
 use crate::figures::{Figures, FILE};
 use mutants::{damaged, damaged_at_random, undamaged, Damage, Mutant};
+
+/// The classes of accepted files, of which the first has all.
+pub const ACCEPTED: [&str; 4] =
+    ["accepted", "accepted with sums over no values", "accepted with no tiles", "accepted with no words in D"];
+
+/// The classes of words that are printed.
+pub const MARKED: [&str; 4] = ["words marked o", "words marked p", "words marked f", "words marked -"];
 
 /// The files of a run.
 pub struct Files {
@@ -45,9 +55,7 @@ impl Files {
 pub fn expect_all(figures: &mut Figures) {
     Damage::NAMES.iter().for_each(|name| figures.damages.add(name, 0));
     FILE.iter().for_each(|number| figures.texts.add(&format!("refused {number}"), 0));
-    ["accepted", "words marked o", "words marked p", "words marked f", "words marked -"]
-        .iter()
-        .for_each(|name| figures.texts.add(name, 0));
+    ACCEPTED.iter().chain(&MARKED).for_each(|name| figures.texts.add(name, 0));
 }
 
 /// Runs the program on a file, at standard input or by its name, and compares all that it prints with the model.
@@ -74,9 +82,18 @@ fn note(mutant: &Mutant, text: &str, figures: &mut Figures) {
     }
     let mut lines = text.lines();
     let first = lines.next().unwrap_or_default();
-    figures.texts.add(if first.starts_with("tiles ") { "accepted" } else { first }, 1);
+    match read(&mutant.bytes) {
+        Ok(job) if first.starts_with("tiles ") => note_accepted(&job, &mut figures.texts),
+        _ => figures.texts.add(first, 1),
+    }
     for line in lines {
         let letter = line.rsplit(' ').next().unwrap_or_default();
         figures.texts.add(&format!("words marked {letter}"), 1);
     }
+}
+
+fn note_accepted(job: &Job, texts: &mut Seen) {
+    let cut = Cut::of(&Groups::of(&job.case), job.request().sizes);
+    let classes = [true, cut.depth == 0 && cut.total() > 0, cut.total() == 0, job.case.d.words.is_empty()];
+    ACCEPTED.iter().zip(classes).for_each(|(name, is_there)| texts.note(name, is_there));
 }

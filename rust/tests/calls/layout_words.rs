@@ -67,13 +67,14 @@ fn letters_above_255() {
     each(1, &[255, 256, 256 + i, u32::MAX], 3);
 }
 
-/// A letter above 255 of B is found before an extent 0 of A, and after counts of D that differ and nine letters of A.
+/// A letter above 255 of B is found before an extent 65,537 of A, and after counts of D that differ and nine letters of
+/// A.
 #[test]
 fn question_3_in_its_place() {
     let r = sound_request();
     let mut layouts = layouts_of(&r.case);
     layouts[1][0] += 256;
-    layouts[0][8] = 0;
+    layouts[0][8] = 65_537;
     assert_eq!(answers(&r, &layouts), [3; 3]);
     layouts[2][25] = 3;
     assert_eq!(answers(&r, &layouts), [2; 3]);
@@ -132,7 +133,7 @@ fn disturb(rng: &mut Rng, words: &mut [u32; 28]) {
 #[test]
 fn random_words() {
     let mut rng = Rng::new(0x1a40_0001);
-    let mut seen = [0; 10];
+    let (mut seen, mut empty) = ([0; 10], 0);
     for _ in 0..20_000 {
         let case = accepted(&mut rng, &KIND);
         let mut layouts = layouts_of(&case);
@@ -146,8 +147,10 @@ fn random_words() {
         let r = Request { case: said, ..sound_request() };
         assert_eq!(answers(&r, &layouts)[1], panels::outcome(&r).answer, "{r:?}");
         seen[found.answer as usize] += 1;
+        empty += usize::from(found.answer == 0 && r.case.tensors().iter().any(|t| t.is_empty()));
     }
     assert!(seen[..6].iter().all(|count| *count > 100), "too few of an answer: {seen:?}");
+    assert!(empty > 500, "only {empty} accepted with a tensor without entries");
 }
 
 fn plain(case: &Case, layouts: &Layouts) -> Outcome {

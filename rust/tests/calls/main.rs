@@ -3,6 +3,8 @@
 #[path = "../common/mod.rs"]
 mod common;
 mod edges;
+mod empty_layers;
+mod empty_tiles;
 mod larger;
 mod layout_words;
 mod limits;

@@ -1,12 +1,14 @@
-//! Random contractions against the model: 32,000 from fixed seeds, a third of them spoilt by an edit.
+//! Random contractions against the model: 40,000 from fixed seeds, a third of them spoilt by an edit, and about a sixth
+//! with labels of extent 0.
 
 use crate::common::call::check;
 use crate::common::make::{accepted, spoil, Kind};
 use crate::common::notes::{note_factors, note_labels, note_strides};
+use crate::common::notes_empty::note_empty;
 use crate::common::rng::Rng;
 use crate::common::seen::Seen;
 
-const TURNS: usize = 8_000;
+const TURNS: usize = 10_000;
 
 const KINDS: [(u64, Kind); 4] = [
     (0x5eed_0001, Kind { labels: 4, extents: &[1, 2, 3, 5, 8, 13], terms: 1_500, aligned: false }),
@@ -32,9 +34,10 @@ fn random_contractions() {
                 note_factors(&mut seen, &case);
                 note_labels(&mut seen, &case);
                 note_strides(&mut seen, &case);
+                note_empty(&mut seen, &case);
             }
         }
     }
-    seen.at_least("answer 0", 20_000);
-    seen.each_at_least(55, 250);
+    seen.at_least("answer 0", 25_000);
+    seen.each_at_least(55 + 39, 250);
 }

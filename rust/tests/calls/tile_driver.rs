@@ -8,6 +8,7 @@ use crate::common::make::{accepted, Kind};
 use crate::common::panels::Model;
 use crate::common::request::Request;
 use crate::common::rng::Rng;
+use crate::common::seen::Seen;
 use nezgrak::{Contraction, OutputIndex, Progress, Refusal, State, Tensor, TileSizes, Tiles};
 
 const KIND: Kind = Kind { labels: 6, extents: &[1, 2, 3, 5, 8], terms: 800, aligned: false };
@@ -36,14 +37,23 @@ fn random_request(rng: &mut Rng) -> Request {
 /// Nothing is changed by making a driver, though it asks the engine for the total.
 #[test]
 fn the_total_is_that_of_the_rules() {
-    let mut rng = seeded(0xd21e_0001);
+    let (mut rng, mut seen) = (seeded(0xd21e_0001), Seen::default());
     for _ in 0..1_000 {
         let mut r = random_request(&mut rng);
         let before = r.clone();
         let found = with_tiles(&mut r, |tiles| (tiles.done(), tiles.total(), tiles.is_complete()));
-        assert_eq!(found, Ok((0, Cut::of(&Groups::of(&before.case), before.sizes).total(), false)), "{before:?}");
+        let cut = Cut::of(&Groups::of(&before.case), before.sizes);
+        assert_eq!(found, Ok((0, cut.total(), cut.total() == 0)), "{before:?}");
         assert!(r.case == before.case && r.work == before.work, "a word was changed: {before:?}");
+        note_cut(&mut seen, &cut);
     }
+    seen.each_at_least(3, 40);
+}
+
+fn note_cut(seen: &mut Seen, cut: &Cut) {
+    seen.note("no tiles", cut.total() == 0);
+    seen.note("panels with no terms", cut.depth == 0 && cut.total() > 0);
+    seen.note("terms", cut.depth > 0 && cut.total() > 0);
 }
 
 /// Between two steps, the words of D and the state of every output index are those of the model.
@@ -63,25 +73,30 @@ fn follow(tiles: &mut Tiles<'_>, model: &Model, old: &[u32], budget: u64) {
 
 #[test]
 fn steps() {
-    let mut rng = seeded(0xd21e_0002);
+    let (mut rng, mut seen) = (seeded(0xd21e_0002), Seen::default());
     for _ in 0..300 {
         let mut r = random_request(&mut rng);
         let (model, old) = (Model::of(&r.case, r.sizes), r.case.d.words.clone());
+        note_cut(&mut seen, &model.cut);
         let budgets: Vec<u64> = (0..4).map(|_| rng.below(model.cut.total() as usize + 2) as u64 / 3).collect();
         with_tiles(&mut r, |mut tiles| {
             budgets.iter().chain(&[u64::MAX, 1]).for_each(|budget| follow(&mut tiles, &model, &old, *budget));
         })
         .expect("an accepted contraction");
     }
+    seen.each_at_least(3, 10);
 }
 
-/// What is left after one tile, by a budget; and D is then that of the plain call.
+/// What is left after one tile, by a budget; and D is then that of the plain call. Where there are no tiles the
+/// iterator ends at once.
 #[test]
 fn as_an_iterator() {
-    let mut rng = seeded(0xd21e_0003);
+    let (mut rng, mut seen) = (seeded(0xd21e_0003), Seen::default());
     for _ in 0..300 {
         let mut r = random_request(&mut rng);
-        let (plain, total) = (plain(&r.case), Cut::of(&Groups::of(&r.case), r.sizes).total());
+        let (plain, cut) = (plain(&r.case), Cut::of(&Groups::of(&r.case), r.sizes));
+        note_cut(&mut seen, &cut);
+        let total = cut.total();
         let budget = 1 + rng.below(5) as u64;
         let counts = with_tiles(&mut r, |mut tiles| {
             let first = tiles.next();
@@ -89,10 +104,12 @@ fn as_an_iterator() {
             (first, rest)
         });
         let progress = |done| Progress { done, complete: done == total };
+        let first = (total > 0).then(|| Ok(progress(1)));
         let steps = (1..total).step_by(budget as usize).map(|done| progress(total.min(done + budget))).collect();
-        assert_eq!(counts, Ok((Some(Ok(progress(1))), Ok(steps))));
+        assert_eq!(counts, Ok((first, Ok(steps))));
         assert_eq!(r.case.d.words, plain);
     }
+    seen.each_at_least(3, 10);
 }
 
 fn plain(case: &Case) -> Vec<u32> {

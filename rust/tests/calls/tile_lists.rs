@@ -5,13 +5,14 @@ use crate::common::case::{same_words, Case, Tensor};
 use crate::common::groups::{Cut, Group, Groups};
 use crate::common::list::List;
 use crate::common::make::{accepted, spoil, Kind};
+use crate::common::notes_empty::note_empty;
 use crate::common::request::{work_needed, Request};
 use crate::common::rng::Rng;
 use crate::common::seen::Seen;
 use crate::common::tile_call::{check_ask, check_run};
 use nezgrak::{OutputIndex, TileSizes};
 
-const TURNS: usize = 2_000;
+const TURNS: usize = 2_500;
 
 const KINDS: [(u64, Kind); 4] = [
     (0x711e_0001, Kind { labels: 4, extents: &[1, 2, 3, 5, 8, 13], terms: 1_500, aligned: false }),
@@ -47,11 +48,11 @@ fn work(rng: &mut Rng, needed: usize) -> Vec<u32> {
     rng.words(length)
 }
 
-/// Mostly in range: one count is outside once in six.
+/// Mostly in range: one count is outside once in six. Of a group of size 0 every count is.
 fn index(rng: &mut Rng, cut: &Cut) -> OutputIndex {
     let mut inside = |size: u64| {
-        let any = rng.below(size as usize) as u64;
-        rng.pick(&[0, any, any, size - 1])
+        let any = rng.below(size.max(1) as usize) as u64;
+        rng.pick(&[0, any, any, size.saturating_sub(1)])
     };
     let mut index = OutputIndex::new(inside(cut.batch), inside(cut.row), inside(cut.column));
     let mut outside = |size: u64| rng.pick(&[size, size + 1, 1 << 32, u64::MAX]);
@@ -76,10 +77,11 @@ fn random_lists() {
             let mut list = list_of(&mut rng, &case);
             seen.note("list that begins after some tiles", list.done() > 0);
             note_cut(&mut seen, &case, &list.model.cut);
+            note_empty(&mut seen, &case);
             (0..1 + rng.below(12)).for_each(|_| turn(&mut rng, &mut list, &mut seen));
         }
     }
-    seen.each_at_least(39, 50);
+    seen.each_at_least(39 + 39 + 6, 50);
 }
 
 /// Mostly from the first tile on.
@@ -95,15 +97,27 @@ fn turn(rng: &mut Rng, list: &mut List, seen: &mut Seen) {
     let (before, left) = (list.done(), list.left());
     let (budget, work) = (budget(rng, left), work(rng, list.work_needed()));
     note_call(seen, left, budget, work.len(), list.work_needed());
+    let after_last = left == 0 && budget > 0 && work.len() >= list.work_needed();
+    seen.note("call after the last tile", after_last && before > 0);
+    seen.note("call where there are no tiles", after_last && before == 0);
     let answer = list.run(budget, work);
     seen.note("call refused by 11", answer == 11);
     seen.note("call that ran the last tile", list.left() == 0 && left > 0);
     seen.note("call that stopped between two tiles", list.done() > before && list.left() > 0);
     for _ in 0..4 {
-        let state = list.ask(index(rng, &list.model.cut));
-        seen.note("question refused by 13", state == Err(13));
-        for (number, name) in ["old", "part", "final"].iter().enumerate() {
-            seen.note(&format!("state {name}"), state == Ok(number as u32));
+        let index = index(rng, &list.model.cut);
+        let state = list.ask(index);
+        note_state(seen, &list.model.cut, state);
+    }
+}
+
+fn note_state(seen: &mut Seen, cut: &Cut, state: Result<u32, u32>) {
+    seen.note("question refused by 13", state == Err(13) && cut.total() > 0);
+    seen.note("question refused by 13 where there are no tiles", state == Err(13) && cut.total() == 0);
+    for (number, name) in ["old", "part", "final"].iter().enumerate() {
+        seen.note(&format!("state {name}"), state == Ok(number as u32));
+        if *name != "part" {
+            seen.note(&format!("state {name} with depth size 0"), state == Ok(number as u32) && cut.depth == 0);
         }
     }
 }
@@ -117,7 +131,6 @@ fn note_call(seen: &mut Seen, left: u64, budget: u64, room: usize, needed: usize
     seen.note("work one word too short", room + 1 == needed);
     seen.note("work exact", room == needed);
     seen.note("work longer", room > needed);
-    seen.note("call after the last tile", left == 0 && budget > 0 && room >= needed);
 }
 
 fn note_cut(seen: &mut Seen, case: &Case, cut: &Cut) {
@@ -130,7 +143,7 @@ fn note_cut(seen: &mut Seen, case: &Case, cut: &Cut) {
     seen.note("depth at an edge", cut.depth % cut.tile_depth != 0);
     let larger = cut.tile_rows > cut.row && cut.tile_cols > cut.column && cut.tile_depth > cut.depth;
     seen.note("tile larger than all groups", larger);
-    let groups = Groups::of(case);
+    let (groups, mut empty_folds) = (Groups::of(case), false);
     note_blocks(seen, "rows of A", &case.a, &groups.row, cut.tile_rows);
     note_blocks(seen, "rows of D", &case.d, &groups.row, cut.tile_rows);
     note_blocks(seen, "columns of B", &case.b, &groups.column, cut.tile_cols);
@@ -138,16 +151,20 @@ fn note_cut(seen: &mut Seen, case: &Case, cut: &Cut) {
     for (name, group) in
         [("batch", &groups.batch), ("row", &groups.row), ("column", &groups.column), ("depth", &groups.depth)]
     {
-        seen.note(&format!("{name} labels that fold"), folds(case, group));
+        seen.note(&format!("{name} labels that fold"), folds(case, group).contains(&1));
+        empty_folds |= folds(case, group).contains(&0);
     }
+    seen.note("label of extent 0 that folds", empty_folds);
+    seen.note("panel with no terms", cut.depth == 0 && cut.total() > 0);
 }
 
-/// Does a label go on, in every tensor, where the one before it ends?
-fn folds(case: &Case, group: &Group) -> bool {
-    let labels: Vec<_> = group.0.iter().filter(|(_, extent)| *extent > 1).collect();
+/// Where a label goes on, in every tensor, where the one before it ends: 0 where one of the two has extent 0, else 1.
+fn folds(case: &Case, group: &Group) -> Vec<u32> {
+    let labels: Vec<_> = group.0.iter().filter(|(_, extent)| *extent != 1).collect();
     let goes_on =
         |t: &Tensor, (letter, extent): (u8, u32), next: u8| t.stride(next) == i64::from(extent) * t.stride(letter);
-    labels.windows(2).any(|two| case.tensors().iter().all(|t| goes_on(t, *two[0], two[1].0)))
+    let two_fold = |two: &&[&(u8, u32)]| case.tensors().iter().all(|t| goes_on(t, *two[0], two[1].0));
+    labels.windows(2).filter(two_fold).map(|two| two[0].1.min(two[1].1).min(1)).collect()
 }
 
 /// Whether a group, cut into blocks, has a scattered one in a tensor, or an even one with a step below 0 or of 0.
@@ -172,6 +189,7 @@ fn the_last_tile_leaves_what_the_plain_engine_leaves() {
             let case = accepted(&mut rng, &kind);
             let mut list = List::new(&case, sizes(&mut rng), 0);
             let share = list.left() / (1 + rng.below(6) as u64);
+            list.step(share.max(1), &mut rng);
             while list.left() > 0 {
                 list.step(share.max(1), &mut rng);
             }
@@ -193,11 +211,22 @@ fn random_requests() {
             let request = request(&mut rng, case.clone());
             (0..spoilt).for_each(|_| spoil(&mut rng, &mut case));
             let request = Request { case, ..request };
-            seen.note(&format!("tile call answered {}", check_run(&request).answer), true);
-            seen.note(&format!("state question answered {}", check_ask(&request).err().unwrap_or(0)), true);
+            note_answers(&mut seen, &request, check_run(&request).answer, check_ask(&request).err().unwrap_or(0));
         }
     }
-    seen.each_at_least(26, 40);
+    seen.each_at_least(26 + 5, 40);
+}
+
+fn note_answers(seen: &mut Seen, request: &Request, of_tiles: u32, of_state: u32) {
+    seen.note(&format!("tile call answered {of_tiles}"), true);
+    seen.note(&format!("state question answered {of_state}"), true);
+    let no_tiles = request.case.d.is_empty();
+    for number in [0, 11, 12] {
+        seen.note(&format!("tile call where there are no tiles: {number}"), no_tiles && of_tiles == number);
+    }
+    for number in [12, 13] {
+        seen.note(&format!("state question where there are no tiles: {number}"), no_tiles && of_state == number);
+    }
 }
 
 fn request(rng: &mut Rng, case: Case) -> Request {

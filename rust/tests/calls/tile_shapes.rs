@@ -138,3 +138,26 @@ fn diagonals() {
     assert_eq!(steps(&case, 6, 5), [Some(11), Some(7), Some(11), Some(36)]);
     runs(&case);
 }
+
+/// Panels with no terms for blocks of every sort: even and scattered ones, ones that count down, and batches.
+#[test]
+fn depths_of_size_0() {
+    runs(&contraction(0x5a9e_0013, "abkl,klcd>abcd", "abcdkl", &[4, 5, 3, 6, 0, 3], 0));
+    runs(&contraction(0x5a9e_0014, "bkal,clkd>dbca", "abcdkl", &[4, 5, 3, 6, 4, 0], 1));
+    runs(&contraction(0x5a9e_0015, "i,jkln>ij", "ijkln", &[70, 66, 3, 0, 0], 0));
+    let mut case = contraction(0x5a9e_0016, "ghik,hgkj>ghij", "ghijk", &[3, 2, 5, 4, 0], 2);
+    (0..4).for_each(|axis| reverse(&mut case.d, axis));
+    runs(&case);
+}
+
+/// Each label of D in turn has extent 0, with words that no entry addresses and without any.
+#[test]
+fn outputs_of_size_0() {
+    for (empty, gap) in (0..6).flat_map(|empty| [(empty, 0), (empty, 2)]) {
+        let mut extents = [4, 5, 3, 6, 2, 11, 3];
+        extents[empty] = 0;
+        let case = contraction(0x5a9e_0017, "bkah,chkd>dbchae", "abcdehk", &extents, gap);
+        assert_eq!(case.d.words.is_empty(), gap == 0);
+        runs(&case);
+    }
+}

@@ -73,7 +73,7 @@ pub fn edits(number: u32) -> &'static [Edit] {
             |t| t.letters.truncate(1),
         ],
         3 => &[|t| t.push(b'@', 1, 0), |t| t.push(0, 1, 0), |t| t.push(b'a' + 128, 1, 0)],
-        4 => &[|t| t.push(b'q', 0, 0), |t| t.push(b'q', 65_537, 0), |t| t.push(b'q', u32::MAX, 0)],
+        4 => &[|t| t.push(b'q', 65_537, 0), |t| t.push(b'q', 1 << 31, 0), |t| t.push(b'q', u32::MAX, 0)],
         5 => &[
             |t| t.push(b'r', 1, 16_777_217),
             |t| t.push(b'r', 1, -16_777_217),
@@ -81,11 +81,12 @@ pub fn edits(number: u32) -> &'static [Edit] {
             |t| t.base = 16_777_217,
             |t| t.base = u32::MAX,
         ],
-        6 => &[|t| t.push(t.letters[0], 4, 0), |t| t.extents[0] += 1, two_extents],
+        6 => &[|t| t.push(t.letters[0], 4, 0), |t| t.extents[0] += 1, |t| t.extents[0] = 0, two_extents],
         7 => &[
             |t| large(t, &[32_768, 32_769]),
             |t| large(t, &[65_536, 65_536]),
             |t| large(t, &[65_536, 65_536, 65_536, 65_536]),
+            |t| large(t, &[32_768, 0, 32_769]),
         ],
         8 => &[
             |t| t.words.truncate(t.words.len() - 1),

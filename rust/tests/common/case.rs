@@ -29,6 +29,11 @@ impl Tensor {
         axes.map(|(_, stride)| i64::from(*stride)).sum()
     }
 
+    /// A tensor with an extent 0 has no entries.
+    pub fn is_empty(&self) -> bool {
+        self.extents.contains(&0)
+    }
+
     /// One axis more, after the others.
     pub fn push(&mut self, letter: u8, extent: u32, stride: i32) {
         self.letters.push(letter);

@@ -15,10 +15,12 @@ pub const SIZES: [TileSizes; 4] = [
     TileSizes { rows: 64, cols: 64, depth: 128 },
 ];
 
-/// Runs all tiles in this many calls, or one for each tile where there are fewer. Gives D's words.
+/// Runs all tiles in this many calls, or one for each tile where there are fewer, and one where there are none. Gives
+/// D's words.
 pub fn run_in(case: &Case, sizes: TileSizes, calls: u64) -> Vec<u32> {
     let mut list = List::new(case, sizes, 0);
     let (mut rng, budget) = (Rng::new(calls), list.left().div_ceil(calls));
+    list.step(budget, &mut rng);
     while list.left() > 0 {
         list.step(budget, &mut rng);
     }

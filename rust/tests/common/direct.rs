@@ -1,8 +1,9 @@
-//! The model's sum: an odometer over every label, and exact numbers until the last step.
+//! The model's sum: for each index of D's labels an odometer over every label that D lacks, and exact numbers until the
+//! last step. A sum over no values is 0.
 
 use super::case::{Case, Outcome, Tensor};
 use super::questions::{first_no, labels};
-use std::collections::{BTreeMap, HashMap};
+use std::collections::BTreeMap;
 
 /// The value of each label, by its letter.
 pub type Values = [i64; 128];
@@ -26,21 +27,23 @@ pub fn entry(t: &Tensor, values: &Values) -> u128 {
 }
 
 fn contracted(case: &Case) -> Vec<u32> {
-    let mut sums: HashMap<usize, u128> = HashMap::new();
-    for_all_values(&labels(&case.tensors()), |values| {
-        let sum = sums.entry(address(&case.d, values) as usize).or_default();
-        *sum += entry(&case.a, values) * entry(&case.b, values);
-    });
+    let (of_d, mut lacking) = (labels(&[&case.d]), labels(&case.tensors()));
+    lacking.retain(|letter, _| !of_d.contains_key(letter));
     let mut words = case.d.words.clone();
-    for (place, sum) in sums {
-        let whole = u128::from(case.alpha) * sum + u128::from(case.beta) * u128::from(words[place]);
-        words[place] = (whole % (1 << 32)) as u32;
-    }
+    for_all_values(&of_d, [0; 128], |output| {
+        let mut sum = 0;
+        for_all_values(&lacking, *output, |values| sum += entry(&case.a, values) * entry(&case.b, values));
+        let whole = u128::from(case.alpha) * sum + u128::from(case.beta) * entry(&case.d, output);
+        words[address(&case.d, output) as usize] = (whole % (1 << 32)) as u32;
+    });
     words
 }
 
-fn for_all_values(extents: &BTreeMap<u8, u32>, mut visit: impl FnMut(&Values)) {
-    let mut values: Values = [0; 128];
+/// Visits all values of these labels, the others staying as they are. There are none where an extent is 0.
+fn for_all_values(extents: &BTreeMap<u8, u32>, mut values: Values, mut visit: impl FnMut(&Values)) {
+    if extents.values().any(|extent| *extent == 0) {
+        return;
+    }
     loop {
         visit(&values);
         let turned = extents.iter().find(|(&letter, &extent)| {

@@ -4,6 +4,7 @@ use super::case::{Case, Tensor};
 use super::rng::Rng;
 
 /// A tensor of these labels whose strides grow in this order, by extents or, with a gap, by a word more for each.
+/// Without a gap they are 0 after an extent 0, and there are no words.
 fn tensor(rng: &mut Rng, labels: &[(u8, u32)], order: &str, gap: i32) -> Tensor {
     let mut t = Tensor::new("", &[], &[], 0, &[]);
     labels.iter().for_each(|(letter, extent)| t.push(*letter, *extent, 0));
@@ -17,9 +18,9 @@ fn tensor(rng: &mut Rng, labels: &[(u8, u32)], order: &str, gap: i32) -> Tensor 
     t
 }
 
-/// Turns an axis round, so that it counts down.
+/// Turns an axis round, so that it counts down. With an extent 0 any base will do.
 pub fn reverse(t: &mut Tensor, axis: usize) {
-    let last = (t.extents[axis] as i32 - 1) * t.strides[axis];
+    let last = t.extents[axis].saturating_sub(1) as i32 * t.strides[axis];
     t.base = (t.base as i32 + last) as u32;
     t.strides[axis] = -t.strides[axis];
 }

@@ -2,19 +2,21 @@
 
 use super::case::{Case, Tensor};
 use super::direct::{address, Values};
-use nezgrak::TileSizes;
+use nezgrak::{OutputIndex, TileSizes};
 use std::ops::Range;
 
 /// Labels with their extents. The first one runs fastest.
 pub struct Group(pub Vec<(u8, u32)>);
 
 impl Group {
+    /// The product of the extents, 0 with an extent 0.
     pub fn size(&self) -> u64 {
         self.0.iter().map(|(_, extent)| u64::from(*extent)).product()
     }
 
-    /// Gives each label the value that it has at a count.
+    /// Gives each label the value that it has at a count, which is below the size.
     pub fn set(&self, values: &mut Values, count: u64) {
+        assert!(count < self.size(), "no count {count} in a group of size {}", self.size());
         let mut rest = count;
         for (letter, extent) in &self.0 {
             values[usize::from(*letter)] = (rest % u64::from(*extent)) as i64;
@@ -57,12 +59,18 @@ impl Groups {
         }
     }
 
-    /// The values of all labels at a count of each group.
-    pub fn values(&self, batch: u64, row: u64, column: u64, depth: u64) -> Values {
+    /// The values of D's labels at an output index.
+    pub fn values(&self, index: OutputIndex) -> Values {
         let mut values: Values = [0; 128];
-        self.batch.set(&mut values, batch);
-        self.row.set(&mut values, row);
-        self.column.set(&mut values, column);
+        self.batch.set(&mut values, index.batch);
+        self.row.set(&mut values, index.row);
+        self.column.set(&mut values, index.column);
+        values
+    }
+
+    /// The values of all labels, with a depth count too.
+    pub fn values_at_depth(&self, index: OutputIndex, depth: u64) -> Values {
+        let mut values = self.values(index);
         self.depth.set(&mut values, depth);
         values
     }
@@ -83,7 +91,7 @@ fn only(labels: &[(u8, u32)], belongs: impl Fn(u8) -> bool) -> Group {
     Group(labels.iter().copied().filter(|(letter, _)| belongs(*letter)).collect())
 }
 
-/// The sizes of the groups, those of a tile, and how many blocks there are of each.
+/// The sizes of the groups, those of a tile, and how many blocks there are of each. Depth size 0 counts as one panel.
 #[derive(Clone, Copy)]
 pub struct Cut {
     pub batch: u64,
@@ -112,7 +120,7 @@ impl Cut {
             tile_depth,
             row_blocks: row.div_ceil(tile_rows),
             column_blocks: column.div_ceil(tile_cols),
-            panels: depth.div_ceil(tile_depth),
+            panels: if depth == 0 { 1 } else { depth.div_ceil(tile_depth) },
         }
     }
 

@@ -1,6 +1,7 @@
 //! Random contractions: accepted ones by construction, and ones that an edit spoils.
 
 use super::case::{Case, Tensor};
+use super::make_empty::strides_base_and_words;
 use super::rng::Rng;
 
 const LIMIT: i32 = 16_777_216;
@@ -9,9 +10,9 @@ const LIMIT: i32 = 16_777_216;
 pub struct Kind {
     /// The most different labels.
     pub labels: usize,
-    /// The extents to choose from.
+    /// The extents to choose from. In about one contraction of six some labels have extent 0 instead.
     pub extents: &'static [u32],
-    /// The most terms in all, the product of all extents.
+    /// The most terms in all, the product of all extents before some are 0.
     pub terms: u32,
     /// Whether letters stand, and strides grow, in one order in all tensors, so that labels often fold.
     pub aligned: bool,
@@ -41,7 +42,19 @@ fn labels(rng: &mut Rng, kind: &Kind) -> Vec<Label> {
         terms *= extent;
         Label { letter, extent, tensors: 1 + rng.below(7) }
     };
-    letters.into_iter().map(&mut label).collect()
+    let mut labels: Vec<Label> = letters.into_iter().map(&mut label).collect();
+    if !labels.is_empty() && rng.once_in(5) {
+        empty_some(rng, &mut labels);
+    }
+    labels
+}
+
+/// Gives extent 0 to one label, or to a few.
+fn empty_some(rng: &mut Rng, labels: &mut [Label]) {
+    for _ in 0..rng.pick(&[1, 1, 1, 2, 3]) {
+        let one = rng.below(labels.len());
+        labels[one].extent = 0;
+    }
 }
 
 fn tensor(rng: &mut Rng, kind: &Kind, labels: &[Label], which: usize) -> Tensor {
@@ -52,12 +65,16 @@ fn tensor(rng: &mut Rng, kind: &Kind, labels: &[Label], which: usize) -> Tensor 
     own.truncate(8);
     let mut t = Tensor::new("", &[], &[], 0, &[]);
     own.iter().for_each(|label| t.push(label.letter, label.extent, 0));
-    match (kind.aligned && !rng.once_in(8), which) {
-        (true, _) => strides_packed(&mut t),
-        (false, 2) => strides_apart(rng, &mut t),
-        (false, _) => strides_of_any_kind(rng, &mut t),
+    if t.is_empty() {
+        strides_base_and_words(rng, &mut t);
+    } else {
+        match (kind.aligned && !rng.once_in(8), which) {
+            (true, _) => strides_packed(&mut t),
+            (false, 2) => strides_apart(rng, &mut t),
+            (false, _) => strides_of_any_kind(rng, &mut t),
+        }
+        base_and_words(rng, &mut t);
     }
-    base_and_words(rng, &mut t);
     repeat_letters(rng, &mut t);
     t
 }
@@ -150,15 +167,17 @@ fn repeat_letters(rng: &mut Rng, t: &mut Tensor) {
     }
 }
 
-/// One small edit, which most often makes one question fail, and sometimes none. Edit n is meant for question n.
+/// One small edit, which most often makes one question fail, and sometimes none. Edit n is meant for question n; 10
+/// turns an axis round, and 11 leaves a tensor without entries.
 pub fn spoil(rng: &mut Rng, case: &mut Case) {
-    let edit = rng.pick(&[1, 2, 3, 4, 5, 6, 6, 7, 8, 9, 9, 9, 10]);
+    let edit = rng.pick(&[1, 2, 3, 4, 5, 6, 6, 7, 8, 9, 9, 9, 10, 11]);
     let t = case.tensor_mut(if edit == 9 { 2 } else { rng.below(3) });
     match edit {
         1 => (t.letters.len()..9).for_each(|_| t.push(rng.pick(b"xyzXYZ"), 1, 0)),
         2 => miscount(rng, t),
         7 => b"yz".iter().for_each(|letter| t.push(*letter, rng.pick(&[32_769, 65_535, 65_536]), 0)),
         8 => misplace(rng, t),
+        11 => t.push(rng.pick(b"uvwxyz"), 0, 0),
         _ => match t.letters.len().min(t.extents.len()).min(t.strides.len()) {
             0 => t.base = rng.pick(&[1, LIMIT as u32, LIMIT as u32 + 1]),
             axes => spoil_axis(rng, t, edit, axes),
@@ -187,9 +206,9 @@ fn spoil_axis(rng: &mut Rng, t: &mut Tensor, edit: usize, axes: usize) {
     let axis = rng.below(axes);
     match edit {
         3 => t.letters[axis] = rng.pick(b"@[`{5 \0\x7f\xc1"),
-        4 => t.extents[axis] = rng.pick(&[0, 65_537, u32::MAX]),
+        4 => t.extents[axis] = rng.pick(&[65_537, 1 << 31, u32::MAX]),
         5 => t.strides[axis] = rng.pick(&[LIMIT + 1, -LIMIT - 1, i32::MAX, i32::MIN]),
-        6 => t.extents[axis] = t.extents[axis].saturating_add(1),
+        6 => t.extents[axis] = if rng.once_in(4) { 0 } else { t.extents[axis].saturating_add(1) },
         9 => t.strides[axis] = t.strides[axis].signum() * rng.pick(&[0, 1, 1, 2]),
         _ => t.strides[axis] = t.strides[axis].saturating_neg(),
     }

@@ -1,8 +1,17 @@
 //! What a random contraction has, noted so that a test shows what it tried.
 
-use super::case::{Case, Tensor};
+use super::case::Case;
 use super::questions::labels;
 use super::seen::Seen;
+
+/// The tensors that a label can have.
+pub const SORTS: [&str; 7] = ["A", "B", "AB", "D", "AD", "BD", "ABD"];
+
+/// The tensors that a label has.
+pub fn sort_of(case: &Case, label: u8) -> String {
+    let having = case.tensors().into_iter().zip("ABD".chars()).filter(|(t, _)| t.letters.contains(&label));
+    having.map(|(_, name)| name).collect()
+}
 
 pub fn note_factors(seen: &mut Seen, case: &Case) {
     for (name, factor) in [("alpha", case.alpha), ("beta", case.beta)] {
@@ -16,13 +25,9 @@ pub fn note_factors(seen: &mut Seen, case: &Case) {
 /// Which tensors have a label, ranks, repeats, extents of 1 and the two cases of a letter.
 pub fn note_labels(seen: &mut Seen, case: &Case) {
     let all = labels(&case.tensors());
-    let has = |t: &Tensor, letter: u8| t.letters.contains(&letter);
-    for sort in 1..8 {
-        let of_sort =
-            |letter: &u8| case.tensors().iter().enumerate().all(|(n, t)| has(t, *letter) == (sort >> n & 1 == 1));
-        let tensors: String = "ABD".chars().enumerate().filter(|(n, _)| sort >> n & 1 == 1).map(|(_, c)| c).collect();
-        let large = all.iter().filter(|(_, extent)| **extent > 1);
-        seen.note(&format!("label in {tensors} only"), large.map(|(letter, _)| letter).any(of_sort));
+    for sort in SORTS {
+        let mut large = all.iter().filter(|(_, extent)| **extent > 1);
+        seen.note(&format!("label in {sort} only"), large.any(|(letter, _)| sort_of(case, *letter) == sort));
     }
     for (name, t) in ["A", "B", "D"].iter().zip(case.tensors()) {
         seen.note(&format!("rank 0 of {name}"), t.letters.is_empty());

@@ -32,16 +32,17 @@ impl Model {
         model
     }
 
+    /// Every output index. The walk is short where one group has size 0, however large the others are.
     pub fn indices(&self) -> impl Iterator<Item = OutputIndex> {
-        let Cut { batch, row, column, .. } = self.cut;
+        let Cut { row, column, .. } = self.cut;
+        let batch = if self.cut.total() == 0 { 0 } else { self.cut.batch };
         let of_batch = move |h| (0..column).flat_map(move |j| (0..row).map(move |i| OutputIndex::new(h, i, j)));
         (0..batch).flat_map(of_batch)
     }
 
     fn output(&self, index: OutputIndex) -> Output {
-        let OutputIndex { batch, row, column } = index;
         let term = |k| {
-            let values = self.groups.values(batch, row, column, k);
+            let values = self.groups.values_at_depth(index, k);
             entry(&self.case.a, &values) * entry(&self.case.b, &values)
         };
         let Cut { depth, tile_depth, panels, .. } = self.cut;
@@ -51,7 +52,7 @@ impl Model {
 
     /// The place in D's slice of an output index.
     pub fn place(&self, index: OutputIndex) -> usize {
-        address(&self.case.d, &self.groups.values(index.batch, index.row, index.column, 0)) as usize
+        address(&self.case.d, &self.groups.values(index)) as usize
     }
 
     /// The number of the tile that brings a panel to an output index.
@@ -89,8 +90,9 @@ impl Model {
         let Cut { row, column, depth, tile_rows, tile_cols, tile_depth, .. } = self.cut;
         let [h, c, p, r] = self.tile(n);
         let word = |entry: u128| entry as u32;
-        let of_a = |i, k| word(entry(&self.case.a, &self.groups.values(h, i, 0, k)));
-        let of_b = |j, k| word(entry(&self.case.b, &self.groups.values(h, 0, j, k)));
+        let values = |i, j, k| self.groups.values_at_depth(OutputIndex::new(h, i, j), k);
+        let of_a = |i, k| word(entry(&self.case.a, &values(i, 0, k)));
+        let of_b = |j, k| word(entry(&self.case.b, &values(0, j, k)));
         let mut after = work.to_vec();
         for d in 0..tile_depth {
             let k = p * tile_depth + d;

@@ -18,13 +18,13 @@ pub fn first_no(case: &Case) -> u32 {
         2
     } else if !every(|t| t.letters.iter().all(u8::is_ascii_alphabetic)) {
         3
-    } else if !every(|t| t.extents.iter().all(|extent| (1..=65_536).contains(extent))) {
+    } else if !every(|t| t.extents.iter().all(|extent| *extent <= 65_536)) {
         4
     } else if !every(within_limits) {
         5
     } else if !extents_agree(case) {
         6
-    } else if !points_fit(case) {
+    } else if !product(case).is_some_and(|product| product <= 1_073_741_824) {
         7
     } else if !every(entries_inside) {
         8
@@ -42,7 +42,7 @@ pub fn first_no_of_tiles(r: &Request) -> u32 {
 
 /// The same where it is known what the first nine say.
 pub fn tiles_after(first_nine: u32, r: &Request) -> u32 {
-    let number = with_ten(first_nine, r.sizes);
+    let number = first_ten_after(first_nine, r.sizes);
     if number != 0 {
         number
     } else if (r.work.len() as u128) < work_needed(r.sizes) {
@@ -61,7 +61,7 @@ pub fn first_no_of_state(r: &Request) -> u32 {
 
 /// The same where it is known what the first nine say.
 pub fn state_after(first_nine: u32, r: &Request) -> u32 {
-    let number = with_ten(first_nine, r.sizes);
+    let number = first_ten_after(first_nine, r.sizes);
     if number != 0 {
         return number;
     }
@@ -75,7 +75,8 @@ pub fn state_after(first_nine: u32, r: &Request) -> u32 {
     }
 }
 
-fn with_ten(first_nine: u32, sizes: TileSizes) -> u32 {
+/// That of questions 1 to 10, which say whether a contraction is accepted.
+pub fn first_ten_after(first_nine: u32, sizes: TileSizes) -> u32 {
     match first_nine {
         0 if !sizes_fit(sizes) => 10,
         number => number,
@@ -96,10 +97,12 @@ fn extents_agree(case: &Case) -> bool {
     case.tensors().iter().all(|t| t.letters.iter().zip(&t.extents).all(|(letter, extent)| extents[letter] == *extent))
 }
 
-/// The product of 24 extents can have 384 bits; one that leaves 128 bits is too large as well.
-fn points_fit(case: &Case) -> bool {
-    let mut extents = labels(&case.tensors()).into_values().map(i128::from);
-    extents.try_fold(1, i128::checked_mul).is_some_and(|product| product <= 1_073_741_824)
+/// Question 7's product of the extents of all different labels, in which an extent 0 counts as 1. The product of 24
+/// extents can have 384 bits; there is none where it leaves 128 bits.
+pub fn product(case: &Case) -> Option<u128> {
+    let mut extents =
+        labels(&case.tensors()).into_values().map(|extent| if extent == 0 { 1 } else { u128::from(extent) });
+    extents.try_fold(1, u128::checked_mul)
 }
 
 /// Every different label of these tensors, with an extent that it has in one of them.
@@ -107,8 +110,12 @@ pub fn labels(tensors: &[&Tensor]) -> BTreeMap<u8, u32> {
     tensors.iter().flat_map(|t| t.letters.iter().copied().zip(t.extents.iter().copied())).collect()
 }
 
-/// An address is linear in each index, so all entries are inside where those at the corners are.
-fn entries_inside(t: &Tensor) -> bool {
+/// A tensor with an extent 0 has no entries. An address is linear in each index, so all entries are inside where those
+/// at the corners are.
+pub fn entries_inside(t: &Tensor) -> bool {
+    if t.is_empty() {
+        return true;
+    }
     let labels = labels(&[t]);
     (0..1_usize << labels.len()).all(|corner| {
         let mut values: Values = [0; 128];
@@ -129,7 +136,11 @@ fn stride_sizes(t: &Tensor) -> BTreeMap<u8, (i128, i128)> {
     sums.into_iter().map(|(letter, stride)| (letter, (stride.abs(), i128::from(extents[&letter])))).collect()
 }
 
-fn apart(d: &Tensor) -> bool {
+/// Question 9. A D with an extent 0 passes.
+pub fn apart(d: &Tensor) -> bool {
+    if d.is_empty() {
+        return true;
+    }
     let sizes = stride_sizes(d);
     sizes.iter().filter(|(_, (_, extent))| *extent > 1).all(|(letter, (size, _))| {
         let others = sizes.iter().filter(|(other, (its, _))| *other != letter && its <= size);

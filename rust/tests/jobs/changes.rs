@@ -1,5 +1,5 @@
-//! Job files with changed bytes: small ones with each byte changed to every other value, and random edits of random
-//! ones.
+//! Job files with changed bytes: small ones with each byte changed to every other value, ones with labels of extent 0
+//! with each bit changed, and random edits of random ones.
 //!
 //! A changed byte may give a label an extent of up to 65,536. In the small files no such change makes a long sum: they
 //! have no stride of 0, so that question 8 refuses a larger extent, where 6 does not. A stride that becomes 0 goes with
@@ -26,13 +26,18 @@ fn small() -> Job {
 
 /// The file with each byte changed to each other value.
 fn changed(file: &[u8]) -> Vec<Vec<u8>> {
+    changed_to(file, |byte| (0..=255).filter(|other| *other != byte).collect())
+}
+
+/// The file with each byte changed to each of these values of it.
+fn changed_to(file: &[u8], values: fn(u8) -> Vec<u8>) -> Vec<Vec<u8>> {
     let change = |(place, byte): (usize, u8)| {
         let mut changed = file.to_vec();
         changed[place] = byte;
         changed
     };
-    let values = |place: usize| (0..=255).filter(move |byte| *byte != file[place]).map(move |byte| (place, byte));
-    (0..file.len()).flat_map(values).map(change).collect()
+    let at = |place: usize| values(file[place]).into_iter().map(move |byte| (place, byte));
+    (0..file.len()).flat_map(at).map(change).collect()
 }
 
 /// How often each number refused, and how many files were accepted.
@@ -66,6 +71,28 @@ fn every_byte_of_a_file_with_bytes() {
     let seen = note_answers(&files);
     seen.at_least("accepted", 3_000);
     has_each(&seen, &[1, 3, 4, 5, 6, 8, 9, 10, 12, 20, 21, 23], 1);
+}
+
+/// A label of extent 0 that only A has, and one that only D has: with a bit more they have values, and the bytes around
+/// them still count.
+#[test]
+fn every_bit_of_files_with_empty_layers() {
+    let a = Tensor::new("k", &[0], &[1], 0, &[3, 1_000_000_007]);
+    let d = Tensor::new("i", &[0], &[2], 0, &[100, 200, 300]);
+    let case = small().case;
+    let cases = [
+        Case { a: a.clone(), b: Tensor::scalar(5), ..case.clone() },
+        Case { d: d.clone(), ..case.clone() },
+        Case { a, d, b: Tensor::scalar(5), ..case },
+    ];
+    for case in cases {
+        let file = Job { case, done: 0, ..small() }.file();
+        let files = changed_to(&file, |byte| (0..8).map(|bit| byte ^ 1 << bit).collect());
+        assert_eq!(files.len(), 8 * file.len());
+        let seen = note_answers(&files);
+        seen.at_least("accepted", 250);
+        has_each(&seen, &[1, 3, 4, 5, 8, 10, 12, 20, 21, 23], 1);
+    }
 }
 
 const KINDS: [(u64, Kind); 2] = [

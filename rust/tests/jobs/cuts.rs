@@ -5,7 +5,7 @@ use crate::common::case::{Case, Tensor};
 use crate::common::flaws::{flaws, Flaw};
 use crate::common::job::Job;
 use crate::common::job_model::refused;
-use crate::common::program::{check, check_all};
+use crate::common::program::{check, check_all, prints};
 
 /// A file cut before each of its bytes.
 fn cut(file: &[u8]) -> Vec<Vec<u8>> {
@@ -64,13 +64,16 @@ fn with_rank_8() {
     every_part_is_refused(&in_bytes(job));
 }
 
-/// Slices of no words, which question 8 refuses when the file is whole.
+/// Slices of no words. When the file is whole question 8 refuses them, but not with an extent 0.
 #[test]
 fn with_empty_tensors() {
-    let tensor = |letters| Tensor::new(letters, &[1], &[1], 0, &[]);
-    let job = job(tensor("i"), tensor("j"), tensor("k"));
-    every_part_is_refused(&job);
-    every_part_is_refused(&in_bytes(job));
+    for (extent, whole) in [(1, "refused 8\n"), (0, "tiles 0 of 0\n")] {
+        let tensor = |letters| Tensor::new(letters, &[extent], &[1], 0, &[]);
+        let job = job(tensor("i"), tensor("j"), tensor("k"));
+        every_part_is_refused(&job);
+        every_part_is_refused(&in_bytes(job.clone()));
+        prints(&job.file(), whole);
+    }
     let mut scalars = self::job(Tensor::scalar(3), Tensor::scalar(5), Tensor::scalar(7));
     (0..3).for_each(|which| scalars.case.tensor_mut(which).words.clear());
     every_part_is_refused(&scalars);

@@ -95,9 +95,10 @@ fn extents_strides_and_bases() {
         for base in [limit as u32 + 1, 1 << 31, u32::MAX] {
             assert_eq!(with(1, 1, base), "refused 5");
         }
-        for extent in [0, 65_537, 1 << 31, u32::MAX] {
+        for extent in [65_537, 1 << 31, u32::MAX] {
             assert_eq!(with(extent, 0, 0), "refused 4");
         }
+        assert_eq!(with(0, 0, 0), if which == 2 { "tiles 0 of 0" } else { "tiles 1 of 1" });
     }
 }
 

@@ -4,6 +4,7 @@ mod changes;
 #[path = "../common/mod.rs"]
 mod common;
 mod cuts;
+mod empty_layers;
 mod example;
 mod files;
 mod limits;

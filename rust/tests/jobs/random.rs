@@ -7,6 +7,7 @@ use crate::common::job_make::{accepted_job, job_of};
 use crate::common::job_model::{read, refused};
 use crate::common::make::{accepted, spoil, Kind};
 use crate::common::notes::{note_factors, note_labels, note_strides};
+use crate::common::notes_empty::note_empty;
 use crate::common::program::check_all;
 use crate::common::rng::Rng;
 use crate::common::seen::Seen;
@@ -39,10 +40,11 @@ fn accepted_jobs() {
         note_factors(&mut seen, &job.case);
         note_labels(&mut seen, &job.case);
         note_strides(&mut seen, &job.case);
+        note_empty(&mut seen, &job.case);
         note_job(&mut seen, job);
         note_text(&mut seen, &text);
     }
-    seen.each_at_least(66, 25);
+    seen.each_at_least(66 + 39 + 4, 25);
 }
 
 fn note_job(seen: &mut Seen, job: &Job) {
@@ -54,7 +56,9 @@ fn note_job(seen: &mut Seen, job: &Job) {
     let cut = Cut::of(&Groups::of(&job.case), request.sizes);
     let left = cut.total() - request.done;
     seen.note("some tiles done before", request.done > 0);
-    seen.note("all tiles done before", left == 0);
+    seen.note("all tiles done before", left == 0 && cut.total() > 0);
+    seen.note("no tiles at all", cut.total() == 0);
+    seen.note("a budget where there are no tiles", cut.total() == 0 && request.budget > 0);
     seen.note("budget 0 with tiles left", request.budget == 0 && left > 0);
     seen.note("budget of less than what is left", (1..left).contains(&request.budget));
     seen.note("budget of what is left", request.budget == left && left > 0);
@@ -69,6 +73,8 @@ fn note_text(seen: &mut Seen, text: &str) {
     let has = |letter: char| text.lines().skip(1).any(|line| line.ends_with(letter));
     ['o', 'p', 'f', '-'].iter().for_each(|letter| seen.note(&format!("words marked {letter}"), has(*letter)));
     seen.note("words old, part and final in one answer", has('o') && has('p') && has('f'));
+    seen.note("words where there are no tiles", text.starts_with("tiles 0 of 0\n") && has('-'));
+    seen.note("no words", text.lines().count() == 1);
 }
 
 /// Up to three edits, to the contraction or to a field of `GO`, so that the first question that fails shows.

@@ -65,7 +65,7 @@ loop-holds c = (omega arith, refl, rw mul-zero)
 mul-of : tie.Need-mul-of Inv-loop μ-loop
 mul-of c =
     let k = c .before .before .before .before .before .before .before .pre .0 in
-    omega (arith, run-starts _ _ k {m = c .before .loop .m} (omega arith), k .foldable .points)
+    omega (arith, run-starts _ _ k {m = c .before .loop .m} (omega arith), k .small)
 
 of-requires : tie.Need-of-requires Inv-loop μ-loop
 of-requires c κs =

@@ -25,7 +25,7 @@ small : (c : tie.After-last-index) → c .last-index .result * c .before .before
 small c =
     let start = c .before .before .before .before .before in
     rw (c .last-index .ensures, c .before .extent-of .ensures)
-    (reach-lt _ _ (extents-bound (listed (start .args .x)) (start .pre .extents) (start .args .d) .1) (c .before .before .before .before .stride-size .ensures .1))
+    (reach-lt _ _ (extents-bound (listed (start .args .x)) (start .pre .extents) (start .args .d)) (c .before .before .before .before .stride-size .ensures .1))
 
 stride-size-requires : tie.Need-stride-size-requires
 stride-size-requires c κs = search needs

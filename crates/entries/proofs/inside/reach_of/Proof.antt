@@ -1,11 +1,13 @@
--- `reach_of` meets its contract. The loop goes from the last label to the first, as `sumOf` does; its invariant: each reach so far is the
--- span of the labels from i on, and at most 2^48 for each of them, which keeps it below 2^60. The measure is i.
+-- `reach_of` meets its contract. The loop goes from the last label to the first, as `sumOf` and `every` do; its invariant: each reach so far is the
+-- span of the labels from i on, and at most 2^48 for each of them, which keeps it below 2^60; and the answer so far is that of their extents. The measure
+-- is i.
 -- Assumes nothing.
 use mathlib.Core.Path.{_≡_}
 use Prim.Native.Nat.{ℕ, _*_, _-_, _^_, _≤_, _<_}
 use native.Mathlib.Omega.{arith}
+use lib.Dec.{ltb}
 use lib.ListN.{getD}
-use Rattle.words.specs.Sums.{sumOf}
+use Rattle.words.specs.Sums.{sumOf, every}
 use Rattle.words.specs.Words.{up, down, signed}
 use Rattle.words.proofs.Tabulate.{from, from-end, from-before}
 use Rattle.limits.specs.Limits.{extentLimit}
@@ -14,7 +16,7 @@ use Rattle.layout.specs.Listed.{listed}
 use Rattle.labels.specs.Labels.{strideOf, extentOf}
 use Rattle.labels.specs.LetterSets.{spelled}
 use Rattle.labels.proofs.Facts.{extents-bound, small-up, small-down, signed-stride}
-use Rattle.entries.specs.EntryQuestions.{span}
+use Rattle.entries.specs.EntryQuestions.{hasEntries, span}
 use Rattle.entries.proofs.Reach.{reach-lt}
 use Rattle.entries.proofs.inside.reach_of.Statement.{statement}
 use Rattle.entries.proofs.inside.reach_of.Tie as tie
@@ -24,6 +26,7 @@ Inv-loop x all i₀ reach₀ i reach =
     (i ≤ i₀)
     × (reach .up ≡ sumOf (λ c. (extentOf c (listed (x .axes)) - 1) * up (strideOf c (listed (x .axes)))) (from 0 (all .letters) i₀ i))
     × (reach .down ≡ sumOf (λ c. (extentOf c (listed (x .axes)) - 1) * down (strideOf c (listed (x .axes)))) (from 0 (all .letters) i₀ i))
+    × (reach .some ≡ every (λ c. ltb 0 (extentOf c (listed (x .axes)))) (from 0 (all .letters) i₀ i))
     × (reach .up ≤ (i₀ - i) * 2 ^ 48)
     × (reach .down ≤ (i₀ - i) * 2 ^ 48)
 
@@ -51,7 +54,7 @@ label c =
     record {
       extent-is = c .before .extent-of .ensures;
       word-is = w;
-      short = rw (c .before .extent-of .ensures) (extents-bound (listed x) (ok .extents) d .1);
+      short = rw (c .before .extent-of .ensures) (extents-bound (listed x) (ok .extents) d);
       up-lt = rw w (small-up x (ok .few) (ok .strides) d);
       down-lt = rw w (small-down x (ok .few) (ok .strides) d);
     }
@@ -60,7 +63,7 @@ loop-holds : tie.Need-loop-holds Inv-loop μ-loop
 loop-holds c =
     let all = c .before .args .x .letters in
     let e = from-end 0 (all .letters) (all .count) in
-    (omega arith, rw e, rw e, omega arith, omega arith)
+    (omega arith, rw e, rw e, rw e, omega arith, omega arith)
 
 sub-i : tie.Need-sub-i Inv-loop μ-loop
 sub-i c = omega arith
@@ -96,17 +99,18 @@ loop-again c =
       omega arith,
       rw (c .with .ensures .0, w .extent-is, w .word-is, l .inv .1, before),
       rw (c .with .ensures .1, w .extent-is, w .word-is, l .inv .2, before),
+      rw (c .with .ensures .2, w .extent-is, l .inv .3, before),
       omega (arith, reach-lt e (up s) (w .short) (w .up-lt)),
       omega (arith, reach-lt e (down s) (w .short) (w .down-lt)),
     )
 
 returns : tie.Need-returns Inv-loop μ-loop
-unfolding span spelled
+unfolding hasEntries span spelled
 returns c =
     let l = c .before .loop in
     let all = c .before .before .before .pre .spells in
     let z : l .i ≡ 0 = omega arith in
-    (rw (l .inv .1, z, ← all .spells), rw (l .inv .2, z, ← all .spells), omega (arith, all .few), omega (arith, all .few))
+    (rw (l .inv .1, z, ← all .spells), rw (l .inv .2, z, ← all .spells), rw (l .inv .3, z, ← all .spells), omega (arith, all .few), omega (arith, all .few))
 
 pub reach-of-spec : {M : Type 1} → statement M
 reach-of-spec =

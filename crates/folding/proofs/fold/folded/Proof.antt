@@ -143,7 +143,7 @@ merged-requires c κs =
     let j = both-true (ltb 0 (l .n)) (joins (asLabel (last g)) (asLabel (getD d (l .i) noDim)))
     (rw (c .before .before .before .last-place .ensures) at (sym (c .before .joins-last .ensures) ∙ e)) in
     rw (c .before .before .before .last-place .ensures)
-    (joined-fits g (ltb-true 0 (l .n) (j .0)) (getD d (l .i) noDim) (l .inv .3 .foldable) (f .foldable) (j .1))
+    (joined-fits g (ltb-true 0 (l .n) (j .0)) (getD d (l .i) noDim) (f .foldable) (j .1))
 
 mul-t21 : tie.Need-mul-t21 Inv-loop μ-loop
 mul-t21 c = let l = c .before .before .before .before .before .before .before .before .before .before .loop in omega (arith, placed c, l .inv .1)

@@ -1,4 +1,4 @@
--- `capped` meets its contract: the product of a 32-bit extent and a number at most one above the limit fits 64 bits.
+-- `capped` meets its contract: the product of a 32-bit factor and a number at most one above the limit fits 64 bits.
 -- Assumes nothing.
 use mathlib.Core.Path.{sym}
 use Prim.Native.Nat.{_+_, _*_, _≤_}
@@ -11,20 +11,20 @@ use Rattle.points.proofs.label_questions.capped.Statement.{statement}
 use Rattle.points.proofs.label_questions.capped.Tie as tie
 
 mul-all : tie.Need-mul-all
-mul-all c = record { fits = product-lt 32 (c .fits .extent .fits) (omega arith) }
+mul-all c = record { fits = product-lt 32 (c .fits .factor .fits) (omega arith) }
 
 add-result : tie.Need-add-result
 add-result c = search needs
 
 returns : tie.Need-returns
 returns c =
-    let all = c .before .args .extent * c .before .args .product in
+    let all = c .before .args .factor * c .before .args .product in
     let h : all ≤ productLimit + 1 = omega arith in
     sym (min-eq-right h)
 
 returns-2 : tie.Need-returns-2
 returns-2 c =
-    let all = c .before .args .extent * c .before .args .product in
+    let all = c .before .args .factor * c .before .args .product in
     let h : productLimit + 1 ≤ all = omega arith in
     sym (min-eq-left h)
 

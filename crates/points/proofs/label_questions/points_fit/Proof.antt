@@ -1,11 +1,11 @@
 -- `points_fit` meets its contract. The loop goes from the last letter to the first, as `product` does; its invariant: the product so far is
--- that of the extents of the letters from i on, or the number just above the limit where that is less. As no extent is 0, a product that
--- went above the limit stays above it. The measure is i.
+-- that of the letters from i on, or the number just above the limit where that is less. As every factor is 1 or more, a product that went
+-- above the limit stays above it. The measure is i.
 -- Assumes nothing.
 use mathlib.Core.Path.{_≡_}
 use mathlib.Core.Bool.{Bool, true, false, not}
-use Prim.Native.Nat.{ℕ, _+_, _*_, _-_, _≤_, _<_, min}
-use native.Mathlib.Nat.{min-le-left, min-eq-left, min-eq-right, mul-le-mul-right}
+use Prim.Native.Nat.{ℕ, _+_, _*_, _-_, _≤_, _<_, min, max}
+use native.Mathlib.Nat.{min-le-left, min-eq-left, min-eq-right, mul-le-mul-right, le-max-left}
 use native.Mathlib.Omega.{arith}
 use borrow.Author.Tests.{le-leb, lt-leb}
 use lib.Dec.{T, leb, leb→le, nleb→lt}
@@ -13,14 +13,10 @@ use lib.ListN.{getD}
 use Rattle.words.specs.Sums.{product}
 use Rattle.words.proofs.Tabulate.{from, from-end, from-before}
 use Rattle.limits.specs.Limits.{productLimit}
-use Rattle.validity.specs.TensorQuestions.{extentsValid}
 use Rattle.labels.specs.Labels.{extentOf}
 use Rattle.labels.specs.LetterSets.{spelled}
-use Rattle.labels.proofs.Facts.{extents-bound}
-use Rattle.contraction.specs.declared.operands.Operands.{Operands}
 use Rattle.contraction.specs.Operands.{together}
-use Rattle.contraction.specs.TensorAxes.{shapeOf, Gathered}
-use Rattle.contraction.proofs.Together.{every-together}
+use Rattle.contraction.specs.TensorAxes.{shapeOf}
 use Rattle.points.specs.LabelQuestions.{points, pointsFit}
 use Rattle.points.proofs.label_questions.points_fit.Statement.{statement}
 use Rattle.points.proofs.label_questions.points_fit.Tie as tie
@@ -54,13 +50,8 @@ cut-test k p = go (leb p k) (leb→le p k) (nleb→lt p k)
         let l : k + 1 ≤ p = omega (arith, g tt) in
         rw (min-eq-left l) (lt-leb (k + 1) k (omega arith))
 
--- every extent is 1 or more
-valid : (x : Operands) → Gathered x → T (extentsValid (together (shapeOf x)))
-unfolding extentsValid
-valid x h = every-together _ (shapeOf x) (λ o. h .each o .checked .extents)
-
 abbrev Inv-loop : tie.InvT-loop
-Inv-loop x all i₀ product₀ i product′ = (i ≤ i₀) × (product′ ≡ min (productLimit + 1) (product (λ c. extentOf c (together (shapeOf x))) (from 0 (all .letters) i₀ i)))
+Inv-loop x all i₀ product₀ i product′ = (i ≤ i₀) × (product′ ≡ min (productLimit + 1) (product (λ c. max 1 (extentOf c (together (shapeOf x)))) (from 0 (all .letters) i₀ i)))
 
 abbrev μ-loop : tie.MeasureT-loop
 μ-loop x all i₀ product₀ i product′ = i
@@ -82,9 +73,12 @@ element-copy-out-extent c = omega (arith, c .before .before .before .pre .all .f
 extent-requires : tie.Need-extent-requires Inv-loop μ-loop
 extent-requires c κs = c .before .before .before .before .pre
 
+counted-requires : tie.Need-counted-requires Inv-loop μ-loop
+counted-requires c κs = tt
+
 capped-requires : tie.Need-capped-requires Inv-loop μ-loop
 capped-requires c κs =
-    let l = c .before .before .before .loop in
+    let l = c .before .before .before .before .loop in
     rw (l .inv .1) (min-le-left (productLimit + 1) _)
 
 loop-less : tie.Need-loop-less Inv-loop μ-loop
@@ -92,13 +86,17 @@ loop-less c = omega arith
 
 loop-again : tie.Need-loop-again Inv-loop μ-loop
 loop-again c =
-    let l = c .before .before .before .before .loop in
-    let s = c .before .before .before .before .before .before in
-    let all = c .before .before .before .before .before .before .args .x .letters in
-    let e = extents-bound (together (shapeOf (s .args .x))) (valid (s .args .x) (s .pre)) (getD (all .letters) (l .i - 1) 0) in (
+    let l = c .before .before .before .before .before .loop in
+    let all = c .before .before .before .before .before .before .before .args .x .letters in (
       omega arith,
-      rw (c .capped .ensures, c .before .extent .ensures, l .inv .1, from-before 0 (all .letters) (all .count) (l .i) (omega arith) (omega arith))
-          (cut-product (productLimit + 1) _ _ (e .0)),
+      rw (
+        c .capped .ensures,
+        c .before .counted .ensures,
+        c .before .before .extent .ensures,
+        l .inv .1,
+        from-before 0 (all .letters) (all .count) (l .i) (omega arith) (omega arith),
+      )
+          (cut-product (productLimit + 1) _ _ (le-max-left 1 _)),
     )
 
 returns : tie.Need-returns Inv-loop μ-loop
@@ -121,6 +119,7 @@ points-fit-spec =
     mul-extent
     element-copy-out-extent
     extent-requires
+    counted-requires
     capped-requires
     loop-less
     loop-again

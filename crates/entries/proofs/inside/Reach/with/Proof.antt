@@ -1,6 +1,7 @@
 -- `Reach::with` meets its contract. The last index is at most 65,535 and each part of the stride is below 2^32, so a product is below 2^48
 -- and its sum with what was reached before fits.
 -- Assumes nothing.
+use mathlib.Core.Path.{refl}
 use Prim.Native.Nat.{_*_, _^_, _<_}
 use native.Mathlib.Omega.{arith}
 use borrow.Author.Needs.{needs}
@@ -38,8 +39,8 @@ add-t8 c = omega (arith, below (c .before .before))
 
 returns : tie.Need-returns
 returns c =
-    let d = c .before .before in
-    (rw (d .before .before .last-index .ensures, d .before .up .ensures), rw (d .before .before .last-index .ensures, d .down .ensures))
+    let d = c .before .before .before in
+    (rw (d .before .before .last-index .ensures, d .before .up .ensures), rw (d .before .before .last-index .ensures, d .down .ensures), refl)
 
 pub with-spec : {M : Type 1} → statement M
 with-spec =

@@ -1,20 +1,20 @@
 -- `Group::size_from` meets its contract. The loop goes from the last label to the place; its invariant: the product is the size of the labels from i on.
--- That is at most the size of all, since every extent is 1 or more, and so fits 32 bits. The measure is i.
+-- That is at most their product where an extent 0 counts as 1, which is at most that of all, and so fits 32 bits. The measure is i.
 -- Assumes nothing.
 use mathlib.Core.Path.{_≡_, refl, ap, sym, _∙_}
 use mathlib.Core.List.{List, [], _∷_, map}
 use Prim.Native.Nat.{ℕ, zero, suc, _-_, _*_, _<_, _≤_}
-use native.Mathlib.Nat.{mul-le-mul-right}
+use native.Mathlib.Nat.{mul-le-mul-right, le-max-left}
 use native.Mathlib.Omega.{arith}
 use lib.ListN.{getD, drop}
-use Rattle.words.specs.Sums.{All}
 use Rattle.words.proofs.Tabulate.{from, from-end, from-before}
 use Rattle.limits.specs.Limits.{productLimit}
 use Rattle.groups.specs.declared.groups.Dim.{Dim}
 use Rattle.groups.specs.declared.groups.Group.{Group}
 use Rattle.groups.specs.Groups.{Label, size}
 use Rattle.groups.specs.Held.{asLabel, noDim, labelsIn}
-use Rattle.groups.specs.Foldable.{Foldable}
+use Rattle.groups.specs.Foldable.{pointsIn, Foldable}
+use Rattle.groups.proofs.Points.{size-points}
 use Rattle.groups.proofs.groups.Group.size_from.Statement.{statement}
 use Rattle.groups.proofs.groups.Group.size_from.Tie as tie
 
@@ -39,13 +39,13 @@ drop-labels : (g : Group) (i : ℕ) → map asLabel (from noDim (g .dims) (g .co
 unfolding labelsIn
 drop-labels g i = map-drop i (from noDim (g .dims) (g .count) 0)
 
-size-drop : (i : ℕ) (g : List Label) → All (λ l. 0 < l .extent) g → size (drop i g) ≤ size g
-size-drop zero g a = omega arith
-size-drop (suc i) [] a = omega arith
-size-drop (suc i) (l ∷ g) a = omega (arith, size-drop i g (a .1), mul-le-mul-right (size g) (a .0))
+points-drop : (i : ℕ) (g : List Label) → pointsIn (drop i g) ≤ pointsIn g
+points-drop zero g = omega arith
+points-drop (suc i) [] = omega arith
+points-drop (suc i) (l ∷ g) = omega (arith, points-drop i g, mul-le-mul-right (pointsIn g) (le-max-left 1 (l .extent)))
 
 left-fits : (g : Group) → Foldable (labelsIn g) → (i : ℕ) → left (g .dims) (g .count) i ≤ productLimit
-left-fits g f i = omega (arith, f .points, size-drop i (labelsIn g) (f .extents), ap size (drop-labels g i))
+left-fits g f i = omega (arith, f .points, points-drop i (labelsIn g), size-points (drop i (labelsIn g)), ap size (drop-labels g i))
 
 abbrev Inv-loop : tie.InvT-loop
 Inv-loop start self product₀ i₀ product i = (start ≤ i) × (i ≤ i₀) × (product ≡ left (self .dims) i₀ i)

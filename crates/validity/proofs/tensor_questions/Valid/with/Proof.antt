@@ -16,10 +16,10 @@ stride-valid-requires c κs = search needs
 returns : tie.Need-returns
 unfolding lettersValid extentsValid stridesValid
 returns c = λ xs v.
-    let a = c .before .before .before .before .before .before .before .before .args .a in
+    let a = c .before .before .before .before .before .before .before .args .a in
     let same = toZ-ofZ w32 (a .stride) (record { sfits = c .before .before .struct-told .given .1 .1 .0 .1 }) in
     record {
-      letters = rw (c .before .before .before .before .before .before .before .is-letter .ensures, v .letters);
+      letters = rw (c .before .before .before .before .before .before .is-letter .ensures, v .letters);
       extents = rw (v .extents);
       strides = rw (c .before .stride-valid .ensures, same, v .strides);
     }
