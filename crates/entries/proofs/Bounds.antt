@@ -102,8 +102,8 @@ module _ (l : Layout) (n : ℕ) where
       let cs : List ℕ = labels xs in
       let none = sumOf-zero cs in
       inside-le xs (l .base) n .1 (λ some.
-        let low = f (corner xs down) (corner-in xs down some) in
-        let high = f (corner xs up) (corner-in xs up some) in (
+      let low = f (corner xs down) (corner-in xs down some) in
+      let high = f (corner xs up) (corner-in xs up some) in (
         omega (arith, axes-labels xs (corner xs down), corner-over xs down down _ (toward-own down) cs, corner-over xs down up _ down-up cs),
         omega (arith, axes-labels xs (corner xs up), corner-over xs up up _ (toward-own up) cs, corner-over xs up down _ up-down cs),
       ))
