@@ -5,7 +5,7 @@ use Rattle.limits.specs.Limits.{rankLimit, extentLimit, strideLimit, bas
 use Rattle.limits.specs.Limits.{rowsLimit, colsLimit, depthLimit, blockLimit, jobLimit, workRoom}
 
 pub record LimitCases : Type 0 where
-  -- "at most 8 letters", "every extent 1 to 65,536"
+  -- "at most 8 letters", "Extents become 0 to 65,536"
   pub letters : rankLimit ≡ 8
   pub extents : extentLimit ≡ 65536
   -- "every stride from -16,777,216 to 16,777,216, every base at most 16,777,216, every tensor's slice at most 16,777,216 words"

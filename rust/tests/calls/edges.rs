@@ -1,20 +1,10 @@
 //! The small cases that the rules list. Those that are proved there are also theorems of the definitions; here the archive
 //! runs them, by the plain call and by tile calls.
 
+use crate::common::both::{gives, refuses};
 use crate::common::case::{Case, Tensor};
 use crate::common::list::List;
-use crate::common::{call, cutting};
 use nezgrak::TileSizes;
-
-fn gives(case: &Case, words: &[u32]) {
-    call::gives(case, words);
-    cutting::gives(case, words);
-}
-
-fn refuses(case: &Case, number: u32) {
-    call::refuses(case, number);
-    cutting::refuses(case, number);
-}
 
 /// Alpha 1 and beta 0.
 fn plain(a: Tensor, b: Tensor, d: Tensor) -> Case {

@@ -1,19 +1,10 @@
 //! Labels of extent 0, by the plain call and by tile calls: what becomes of D, and what the questions 4 to 9 say.
 
+use crate::common::both::{gives, refuses};
+use crate::common::call;
 use crate::common::case::{Case, Tensor};
-use crate::common::{call, cutting};
 
 const LIMIT: u32 = 16_777_216;
-
-fn gives(case: &Case, words: &[u32]) {
-    call::gives(case, words);
-    cutting::gives(case, words);
-}
-
-fn refuses(case: &Case, number: u32) {
-    call::refuses(case, number);
-    cutting::refuses(case, number);
-}
 
 /// Alpha 5 and beta 3.
 fn contraction(a: Tensor, b: Tensor, d: Tensor) -> Case {

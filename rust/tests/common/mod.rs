@@ -7,6 +7,7 @@
 
 #![allow(dead_code)] // Each program of tests uses a part of this.
 
+pub mod both;
 pub mod broken;
 pub mod call;
 pub mod case;
