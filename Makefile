@@ -18,12 +18,11 @@ archive:
 
 example: archive
 	@mkdir -p target/c
-	@cc -std=c11 -O2 -Wall -Wextra -Werror -Iinclude examples/plain.c target/staticlib/libnezgrak.a -o target/c/example_plain
-	@cc -std=c11 -O2 -Wall -Wextra -Werror -Iinclude examples/tiles.c target/staticlib/libnezgrak.a -o target/c/example_tiles
-	@target/c/example_plain
-	@$(cargo) run --release --offline --quiet --example plain
-	@target/c/example_tiles
-	@$(cargo) run --release --offline --quiet --example tiles
+	@set -e; for name in plain tiles shared_start; do \
+	    cc -std=c11 -O2 -Wall -Wextra -Werror -Iinclude examples/$$name.c target/staticlib/libnezgrak.a -o target/c/example_$$name; \
+	    target/c/example_$$name; \
+	    ($(cargo) run --release --offline --quiet --example $$name); \
+	done
 
 bench: archive
 	@$(cargo) bench --offline --quiet --bench figures

@@ -76,7 +76,7 @@ static inline nezgrak_layout nezgrak_layout_scalar(uint32_t base)
  *        16,777,216 words?
  *     6  Has a letter the same extent wherever it occurs?
  *     7  Is the product of the extents of all different labels at most 1,073,741,824?
- *     8  Does every entry of A, B and D fall inside its slice?
+ *     8  Does every entry of each tensor fall inside its slice?
  *     9  For each D label of extent above 1, does its stride's size exceed the sum of (extent - 1) * stride size over the
  *        other D labels whose stride size is no greater? (Strides summed per letter.)
  *
@@ -157,6 +157,63 @@ enum {
 uint32_t nezgrak_state(
     const nezgrak_layout *a_layout, const uint32_t *a, size_t a_count,
     const nezgrak_layout *b_layout, const uint32_t *b, size_t b_count,
+    const nezgrak_layout *d_layout, const uint32_t *d, size_t d_count,
+    uint32_t alpha, uint32_t beta,
+    uint32_t rows, uint32_t cols, uint32_t depth,
+    uint64_t done,
+    uint64_t batch, uint64_t row, uint64_t column,
+    uint32_t *state);
+
+/* Contracts A and B into D as nezgrak_contract does, but with a tensor C in place of D's old words: each word that D's layout
+ * addresses becomes
+ *
+ *     alpha * (sum, over every label that D lacks, of A's entry * B's entry) + beta * C's entry    modulo 2^32.
+ *
+ * C's entry is the one at the index of D's word. C has D's letters, in any order, and strides and a base of its own. A stride may be
+ * 0 and entries may share words; where C repeats a letter, its entries are those of the diagonal, as ever. C is only read.
+ *
+ * Returns 0, or the number of the first question whose answer is no: 1 to 6 of nezgrak_contract, then
+ *
+ *     30  Are C's different letters exactly D's?
+ *
+ * then 7 to 9 of nezgrak_contract. Questions 1 to 6 and 8 are put to C as they are to A, B and D; 9 is not.
+ *
+ * The caller has to see to what nezgrak_contract says, of c and its layout too: d shares no word with them, but they may share words
+ * with a, b and the layouts.
+ */
+uint32_t nezgrak_contract_with_c(
+    const nezgrak_layout *a_layout, const uint32_t *a, size_t a_count,
+    const nezgrak_layout *b_layout, const uint32_t *b, size_t b_count,
+    const nezgrak_layout *c_layout, const uint32_t *c, size_t c_count,
+    const nezgrak_layout *d_layout, uint32_t *d, size_t d_count,
+    uint32_t alpha, uint32_t beta);
+
+/* Runs tiles as nezgrak_run_tiles does, of the contraction of nezgrak_contract_with_c: panel 0 puts beta * C's entry in place of
+ * beta * old word, later panels add as there, and a word that no panel has reached keeps its old value.
+ *
+ * Returns 0, or the number of the first question whose answer is no: 1 to 6, 30 and 7 to 9 of nezgrak_contract_with_c,
+ * then 10 to 12 of nezgrak_run_tiles. The caller has to see to what these two say.
+ */
+uint32_t nezgrak_run_tiles_with_c(
+    const nezgrak_layout *a_layout, const uint32_t *a, size_t a_count,
+    const nezgrak_layout *b_layout, const uint32_t *b, size_t b_count,
+    const nezgrak_layout *c_layout, const uint32_t *c, size_t c_count,
+    const nezgrak_layout *d_layout, uint32_t *d, size_t d_count,
+    uint32_t alpha, uint32_t beta,
+    uint32_t rows, uint32_t cols, uint32_t depth,
+    uint32_t *work, size_t work_count,
+    uint64_t done, uint64_t budget,
+    uint64_t *done_after, uint32_t *complete);
+
+/* Says what nezgrak_state says, of the contraction of nezgrak_contract_with_c. Of c too only the count matters.
+ *
+ * Returns 0, or the number of the first question whose answer is no: 1 to 6, 30 and 7 to 9 of nezgrak_contract_with_c,
+ * then 10, 12 and 13 of nezgrak_state. The caller has to see to what these two say.
+ */
+uint32_t nezgrak_state_with_c(
+    const nezgrak_layout *a_layout, const uint32_t *a, size_t a_count,
+    const nezgrak_layout *b_layout, const uint32_t *b, size_t b_count,
+    const nezgrak_layout *c_layout, const uint32_t *c, size_t c_count,
     const nezgrak_layout *d_layout, const uint32_t *d, size_t d_count,
     uint32_t alpha, uint32_t beta,
     uint32_t rows, uint32_t cols, uint32_t depth,

@@ -12,6 +12,8 @@ TEXT or JOB - is standard input or output. A text has one statement a line, in t
     words A 1 2 3 4 5 6
     layout B kj  extents 3 2  strides 1 3
     bytes B 1 0 2 0 1 1                     # byte words, 0 to 255
+    layout C ij  extents 2 2  strides 0 1   # C's two statements may be left out, both or neither
+    words C 10 20                           # C has no byte words
     layout D ij  extents 2 2  strides 1 2
     words D 100 200
         300 400
@@ -29,6 +31,7 @@ Only the form is checked. What the engine refuses, such as an extent of 65537 or
 the job file as it is written.
 """
 
+import contextlib
 import itertools
 import os
 import re
@@ -38,18 +41,15 @@ import sys
 import textwrap
 from collections import namedtuple
 
-TENSORS = "ABD"
+NEXT = {"": "A", "A": "B", "B": "CD", "C": "D"}  # the tensors that may follow each, at the start none
 MOST_LETTERS = 8
 MOST_WORDS = 4096
 MOST_TEXT = 1 << 20  # bytes; the longest text that is read
-MOST_JOB = 1 << 16  # bytes; above the length of every whole job file
+MOST_JOB = 1 << 17  # bytes; above the length of every whole job file
 SHORTEST_RUN = 4  # this many equal words are shown as value*count
 
-BYTE = range(256)
-SHORT = range(2**16)
-UNSIGNED = range(2**32)
-SIGNED = range(-(2**31), 2**31)
-WORD = range(-(2**31), 2**32)
+BYTE, SHORT, UNSIGNED = range(2**8), range(2**16), range(2**32)
+SIGNED, WORD = range(-(2**31), 2**31), range(-(2**31), 2**32)
 
 # The keys of go in the file's order, with their ranges and what they are when left out.
 GO_KEYS = {
@@ -65,7 +65,7 @@ GO_FORM = "2I3H2I"
 WORD_FORM = {"W": "I", "Y": "B"}
 
 NUMBER = re.compile(r"-?(0[xX][0-9a-fA-F]{1,40}|[0-9]{1,40})")
-LETTER = re.compile(r"\\x([0-9a-fA-F]{2})|([!-\[\]-~])")
+LETTER = re.compile(r"\\x([0-9a-fA-F]{2})|([!-\[\]-~])|(.)")
 
 Token = namedtuple("Token", "text line")
 
@@ -124,17 +124,16 @@ class Statement:
         """Sorts KEY N.. KEY N.. into `fields`: each key's own token and those after it."""
         key = None
         for token in tokens:
-            if token.text[0] in "-0123456789":
-                if key is None:
-                    self.wrong(f"{quoted(token.text)} has no key before it", token)
-                self.fields[key].append(token)
-            else:
+            if token.text[0] not in "-0123456789":
                 key = token.text
                 if key not in keys:
                     self.wrong(f"unknown key {quoted(key)}; the keys here are {', '.join(keys)}", token)
                 if key in self.fields:
                     self.wrong(f"repeated key '{key}'", token)
-                self.fields[key] = [token]
+                self.fields[key] = []
+            elif key is None:
+                self.wrong(f"{quoted(token.text)} has no key before it", token)
+            self.fields[key].append(token)
 
     def field(self, key, span, count, default):
         """The values of one key, exactly `count`, or the default where the key is left out and has one."""
@@ -171,13 +170,10 @@ def statements_of(name, data):
 
 def letters_of(statement, token):
     letters = bytearray()
-    at = 0
-    while token.text != "-" and at < len(token.text):
-        match = LETTER.match(token.text, at)
-        if not match:
-            statement.wrong(f"letter {quoted(token.text[at])} is neither printable ASCII nor \\xHH", token)
-        letters.append(int(match[1], 16) if match[1] else ord(match[2]))
-        at = match.end()
+    for code, printable, other in LETTER.findall("" if token.text == "-" else token.text):
+        if other:
+            statement.wrong(f"letter {quoted(other)} is neither printable ASCII nor \\xHH", token)
+        letters.append(int(code, 16) if code else ord(printable))
     if len(letters) > MOST_LETTERS:
         statement.wrong(f"{len(letters)} letters; a tensor has at most {MOST_LETTERS}", token)
     return bytes(letters)
@@ -201,8 +197,7 @@ def words_record(statement):
     first, tensor, *tokens = statement.tokens
     kind, what, span = ("W", "word", WORD) if first.text == "words" else ("Y", "byte word", BYTE)
     words = [value % 2**32 for value in statement.numbers(tokens, what, span)]
-    mark = f"{kind}{tensor.text}".encode()
-    return struct.pack(f"<2sI{len(words)}{WORD_FORM[kind]}", mark, len(words), *words)
+    return struct.pack(f"<2sI{len(words)}{WORD_FORM[kind]}", f"{kind}{tensor.text}".encode(), len(words), *words)
 
 
 def go_record(statement):
@@ -212,14 +207,16 @@ def go_record(statement):
 
 
 RECORDS = {"layout": layout_record, "words": words_record, "bytes": words_record, "go": go_record}
-ORDER = [f"{kind} {tensor}" for tensor in TENSORS for kind in ("layout", "words")] + ["go"]
+ORDER = [f"{kind} {tensor}" for tensor in "ABCD" for kind in ("layout", "words")] + ["go"]
 
 
 def job_of(name, data):
     """The job file that a text describes, both as bytes."""
     statements = statements_of(name, data)
+    named = {token.text for part in statements if part.tokens[0].text != "go" for token in part.tokens[1:2]}
+    order = [due for due in ORDER if due[-1] != "C" or "C" in named]
     job = b""
-    for statement, due in itertools.zip_longest(statements, ORDER):
+    for statement, due in itertools.zip_longest(statements, order):
         if not statement:
             line = statements[-1].tokens[-1].line if statements else 1
             raise Fault(f"{name}:{line}: the text ends here; '{due}' is missing")
@@ -229,6 +226,8 @@ def job_of(name, data):
         found = " ".join(token.text for token in statement.tokens[: 1 if kind == "go" else 2])
         if not due:
             statement.wrong(f"{quoted(found)} stands after 'go', which is the last statement")
+        if found == "bytes C" and due == "words C":
+            statement.wrong("C has no byte words; 'words C' is due")
         if due not in (found, found.replace("bytes", "words")):
             statement.wrong(f"out of order: {quoted(found)} stands where '{due}' is due")
         job += RECORDS[kind](statement)
@@ -261,9 +260,8 @@ class Job:
     def mark(self, record, *allowed):
         self.record = record
         [mark] = self.take("2s")
-        if mark not in allowed:
-            wanted = " or ".join(mark.decode() for mark in allowed)
-            self.refuse(20, self.at - 2, f"its mark is {str(mark)[1:]} and not {wanted}")
+        if mark not in [one.encode() for one in allowed]:
+            self.refuse(20, self.at - 2, f"its mark is {str(mark)[1:]} and not {' or '.join(allowed)}")
         return mark.decode()
 
     def count(self, form, most, number, what):
@@ -290,25 +288,30 @@ def shown_words(head, words):
     return textwrap.fill(" ".join(parts), 100, subsequent_indent="    ")
 
 
-def shown_tensor(job, tensor):
-    job.mark(f"{tensor} layout", f"L{tensor}".encode())
+def shown_tensor(job, tensors):
+    """The statements of the one of these tensors that comes next, and its name."""
+    tensor = job.mark(f"{tensors[-1]} layout", *[f"L{tensor}" for tensor in tensors])[1]
+    job.record = f"{tensor} layout"
     rank = job.count("B", MOST_LETTERS, 1, "rank")
     letters, *numbers, base = job.take(layout_form(rank))
     lists = {"extents": numbers[:rank], "strides": numbers[rank:], "base": [base]}
     fields = [" ".join([key, *map(str, values)]) for key, values in lists.items() if values]
     layout = "  ".join([f"layout {tensor} {shown_letters(letters)}", *fields])
 
-    kind = job.mark(f"{tensor} words", f"W{tensor}".encode(), f"Y{tensor}".encode())[0]
+    kind = job.mark(f"{tensor} words", *[f"{kind}{tensor}" for kind in WORD_FORM if kind + tensor != "YC"])[0]
     count = job.count("I", MOST_WORDS, 23, "word count")
     words = job.take(f"{count}{WORD_FORM[kind]}")
-    return layout + "\n" + shown_words(f"{'words' if kind == 'W' else 'bytes'} {tensor}", words) + "\n"
+    return layout + "\n" + shown_words(f"{'words' if kind == 'W' else 'bytes'} {tensor}", words) + "\n", tensor
 
 
 def text_of(name, data):
     """The text of which `job_of` makes this job file, as a string."""
     job = Job(name, data)
-    text = "".join(shown_tensor(job, tensor) for tensor in TENSORS)
-    job.mark("go", b"GO")
+    text = tensor = ""
+    while tensor in NEXT:
+        shown, tensor = shown_tensor(job, NEXT[tensor])
+        text += shown
+    job.mark("go", "GO")
     go = [f"{key} {value}" for key, value in zip(GO_KEYS, job.take(GO_FORM))]
     if job.at < len(data):
         job.refuse(22, job.at, "the file goes on after it")
@@ -371,10 +374,8 @@ def command(name="", *rest):
         make(*rest)
     elif name == "show" and len(rest) == 1:
         show(*rest)
-    elif name == "run" and len(rest) == 1:
-        run(*rest)
-    elif name == "run" and len(rest) == 3 and rest[1] == "--program":
-        run(rest[0], rest[2])
+    elif name == "run" and (len(rest) == 1 or len(rest) == 3 and rest[1] == "--program"):
+        run(*rest[::2])
     elif name == "run" and len(rest) == 3 and rest[0] == "--program":
         run(rest[2], rest[1])
     else:
@@ -386,10 +387,8 @@ def main(arguments):
         command(*arguments)
         return 0
     except Fault as fault:
-        try:
+        with contextlib.suppress(AttributeError, OSError):  # standard error may be closed
             sys.stderr.write(f"{fault}\n" if str(fault) else "")
-        except (AttributeError, OSError):
-            pass  # standard error is closed
         return fault.status
     except KeyboardInterrupt:
         return 130

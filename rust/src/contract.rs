@@ -1,12 +1,12 @@
-use crate::ffi::nezgrak_contract;
-use crate::{Contraction, Refusal};
+use crate::{ffi, Contraction, Refusal};
 
 impl Contraction<'_> {
     /// Contracts A and B into D by a direct sum.
     ///
     /// Each word that D's layout addresses becomes beta × its old value + alpha × the sum, over every label that D lacks,
-    /// of A's entry × B's entry. A tensor that lacks a label has the same entry at each of its values. Sums and products
-    /// are taken modulo 2^32. The words of D's slice that its layout does not address keep their values.
+    /// of A's entry × B's entry. Where C is named, beta × C's entry stands for beta × the old value. A tensor that lacks a
+    /// label has the same entry at each of its values. Sums and products are taken modulo 2^32. The words of D's slice that
+    /// its layout does not address keep their values.
     ///
     /// # Errors
     ///
@@ -30,13 +30,10 @@ impl Contraction<'_> {
         // so nothing else that is passed shares one. The archive keeps no pointer, and is proved to read and write inside
         // the slices only, whatever the layouts hold.
         let number = unsafe {
-            nezgrak_contract(
-                self.a.layout.as_words(),
-                self.a.words.as_ptr(),
-                self.a.words.len(),
-                self.b.layout.as_words(),
-                self.b.words.as_ptr(),
-                self.b.words.len(),
+            ffi::contract(
+                self.a.operand(),
+                self.b.operand(),
+                self.c_operand(),
                 self.d.as_words(),
                 d.as_mut_ptr(),
                 d.len(),

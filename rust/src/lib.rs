@@ -6,7 +6,8 @@
 //!
 //! A [`Tensor`] is a slice of words with a [`Layout`] that says which word is which entry. A [`Contraction`] has two that
 //! are read, A and B, and the layout of D, whose words are lent to each call: [`contract()`](Contraction::contract) sums
-//! at once, and [`tiles()`](Contraction::tiles) tile by tile, with time for other work in between.
+//! at once, and [`tiles()`](Contraction::tiles) tile by tile, with time for other work in between. What a sum starts from
+//! is D's old word, or the entry of a third tensor that is read, C, by [`with_c()`](Contraction::with_c).
 //!
 //! ```
 //! use nezgrak::{Contraction, Layout, Tensor};
@@ -18,6 +19,11 @@
 //! let mut words = [100, 200, 300, 400];
 //! Contraction::new(a, b, d).with_alpha(1).with_beta(2).contract(&mut words)?;
 //! assert_eq!(words, [211, 414, 608, 810]);
+//!
+//! // With C(i,j) in place of the old D(i,j): 10 where j is 0 and 20 where it is 1, for each i.
+//! let c = Tensor::new(Layout::new(b"ij", &[2, 2], &[0, 1], 0), &[10, 20]);
+//! Contraction::new(a, b, d).with_beta(2).with_c(c).contract(&mut words)?;
+//! assert_eq!(words, [31, 34, 48, 50]);
 //! # Ok::<(), nezgrak::Refusal>(())
 //! ```
 

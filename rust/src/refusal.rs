@@ -1,11 +1,14 @@
 use core::error::Error;
 use core::fmt;
 
-/// The question that a call failed. Questions are asked in the order of their numbers, each of A, B and D before the
-/// next, so the number is that of the first *no*. A refused call changes no word.
+/// The question that a call failed. Questions are asked in the order of their numbers, but 30 right after 6, each of A, B,
+/// C where it is named and D before the next, so the number is that of the first *no*. A refused call changes no word.
 ///
-/// [`contract()`](crate::Contraction::contract) asks 1 to 9, [`run_tiles()`](crate::Contraction::run_tiles) 1 to 12, and
-/// [`state()`](crate::Contraction::state) 1 to 10, 12 and 13.
+/// 9 is asked of D alone, and 30 only where C is named.
+///
+/// [`contract()`](crate::Contraction::contract) asks 1 to 6, 30 and 7 to 9,
+/// [`run_tiles()`](crate::Contraction::run_tiles) 1 to 6, 30 and 7 to 12, and
+/// [`state()`](crate::Contraction::state) 1 to 6, 30, 7 to 10, 12 and 13.
 ///
 /// ```
 /// use nezgrak::{Contraction, Layout, Tensor};
@@ -13,7 +16,7 @@ use core::fmt;
 /// let two = Tensor::new(Layout::scalar(0), &[2]);
 /// let refused = Contraction::new(two, two, Layout::scalar(1)).contract(&mut [0]).unwrap_err();
 /// assert_eq!(refused.number(), 8);
-/// assert_eq!(refused.to_string(), "refused 8: an entry of A, B or D falls outside its slice");
+/// assert_eq!(refused.to_string(), "refused 8: an entry of a tensor falls outside its slice");
 /// ```
 #[derive(Clone, Copy, PartialEq, Eq, Hash)]
 pub struct Refusal {
@@ -21,7 +24,7 @@ pub struct Refusal {
 }
 
 impl Refusal {
-    /// The question's number, 1 to 13.
+    /// The question's number, 1 to 13 or 30.
     #[must_use]
     pub const fn number(self) -> u32 {
         self.number
@@ -47,8 +50,9 @@ impl Refusal {
                  or a tensor's slice has more than 16,777,216 words"
             }
             6 => "a letter has two extents",
+            30 => "C's different letters are not exactly D's",
             7 => "the product of the extents of all different labels is above 1,073,741,824",
-            8 => "an entry of A, B or D falls outside its slice",
+            8 => "an entry of a tensor falls outside its slice",
             9 => {
                 "D's strides may let two indices meet in one word: for a D label of extent above 1, its stride's size \
                  does not exceed the sum of (extent - 1) * stride size over the other D labels whose stride size is \
@@ -93,8 +97,8 @@ mod tests {
 
     #[test]
     fn each_number_has_a_text_of_its_own() {
-        let texts: HashSet<_> = (1..=14).map(|n| Refusal::done_or(n).unwrap_err().finding()).collect();
-        assert_eq!(texts.len(), 14);
+        let texts: HashSet<_> = (1..=14).chain([30]).map(|n| Refusal::done_or(n).unwrap_err().finding()).collect();
+        assert_eq!(texts.len(), 15);
         let refused = Refusal::done_or(6).unwrap_err();
         assert_eq!(refused.to_string(), "refused 6: a letter has two extents");
         assert_eq!(format!("{refused:?}"), "refused 6: a letter has two extents");

@@ -1,5 +1,4 @@
-use crate::ffi::nezgrak_run_tiles;
-use crate::{Contraction, Refusal};
+use crate::{ffi, Contraction, Refusal};
 
 /// How much of a contraction one tile holds: so many counts of the row, column and depth group, fewer at the edge.
 ///
@@ -38,9 +37,10 @@ impl Contraction<'_> {
     /// Runs tiles: the smaller of the budget and what is left after `done`.
     ///
     /// Tiles are numbered from 0, by batch count, column block, panel of depth counts and row block, the last one fastest.
-    /// Panel 0 of an output word puts beta × its old value + alpha × its part of the sum, later panels add alpha × theirs;
-    /// when all tiles have run, D is what [`contract()`](Contraction::contract) leaves. [`state()`](Contraction::state)
-    /// says which words are old, partly summed or final until then. Between calls only the budget and `work` may change.
+    /// Panel 0 of an output word puts beta × its old value, or beta × C's entry where C is named, + alpha × its part of the
+    /// sum; later panels add alpha × theirs. A word that no panel has reached holds its old value, with C too. When all
+    /// tiles have run, D is what [`contract()`](Contraction::contract) leaves. [`state()`](Contraction::state) says which
+    /// words are old, partly summed or final until then. Between calls only the budget and `work` may change.
     ///
     /// `work` holds the packed blocks of the last tile run: A's row r and depth d at r + rows × d, from rows × depth on
     /// B's column c and depth d at c + cols × d, and 0 past an edge. The rest of it is unchanged, and all of it where no
@@ -48,7 +48,7 @@ impl Contraction<'_> {
     ///
     /// # Errors
     ///
-    /// The number of the first question that fails, 1 to 12; D and work are then unchanged.
+    /// The number of the first question that fails, 1 to 12 or 30; D and work are then unchanged.
     ///
     /// ```
     /// use nezgrak::{Contraction, Layout, Progress, Tensor, TileSizes};
@@ -82,13 +82,10 @@ impl Contraction<'_> {
         // SAFETY: as in `contract`; D and work are lent by `&mut` and the two answers are variables of this function, so
         // that nothing that is written shares a word with anything else that is passed.
         let number = unsafe {
-            nezgrak_run_tiles(
-                self.a.layout.as_words(),
-                self.a.words.as_ptr(),
-                self.a.words.len(),
-                self.b.layout.as_words(),
-                self.b.words.as_ptr(),
-                self.b.words.len(),
+            ffi::run_tiles(
+                self.a.operand(),
+                self.b.operand(),
+                self.c_operand(),
                 self.d.as_words(),
                 d.as_mut_ptr(),
                 d.len(),

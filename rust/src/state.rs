@@ -1,5 +1,4 @@
-use crate::ffi::nezgrak_state;
-use crate::{Contraction, Refusal, TileSizes};
+use crate::{ffi, Contraction, Refusal, TileSizes};
 
 /// How far a word of the output is.
 #[derive(Clone, Copy, Debug, PartialEq, Eq, Hash)]
@@ -47,7 +46,7 @@ impl Contraction<'_> {
     ///
     /// # Errors
     ///
-    /// The number of the first question that fails: 1 to 10, 12 or 13.
+    /// The number of the first question that fails: 1 to 10, 12, 13 or 30.
     ///
     /// ```
     /// use nezgrak::{Contraction, Layout, OutputIndex, State, Tensor, TileSizes};
@@ -65,13 +64,10 @@ impl Contraction<'_> {
         let mut state = 0;
         // SAFETY: as in `contract`; only the answer is written, a variable of this function.
         let number = unsafe {
-            nezgrak_state(
-                self.a.layout.as_words(),
-                self.a.words.as_ptr(),
-                self.a.words.len(),
-                self.b.layout.as_words(),
-                self.b.words.as_ptr(),
-                self.b.words.len(),
+            ffi::state(
+                self.a.operand(),
+                self.b.operand(),
+                self.c_operand(),
                 self.d.as_words(),
                 d.as_ptr(),
                 d.len(),

@@ -48,7 +48,7 @@ impl<'a> Contraction<'a> {
     ///
     /// # Errors
     ///
-    /// The number of the first question that fails, 1 to 11. They are asked here, so that no step is refused later.
+    /// The number of the first question that fails, 1 to 11 or 30. They are asked here, so that no step is refused later.
     pub fn tiles(self, d: &'a mut [u32], sizes: TileSizes, work: &'a mut [u32]) -> Result<Tiles<'a>, Refusal> {
         let mut tiles = Tiles { contraction: self, d, sizes, work, done: 0, total: 0, budget: 1 };
         tiles.total = tiles.largest_count()?;

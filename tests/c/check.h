@@ -15,6 +15,14 @@ static inline void check(const char *name, int holds)
     failed += !holds;
 }
 
+/* Puts guard words on both sides of a lent slice of `count` words, and first, first + step, .. into it. */
+static inline void fill(uint32_t *words, int count, uint32_t first, uint32_t step)
+{
+    for (int i = 0; i < GUARD + count + GUARD; i++) {
+        words[i] = i < GUARD || i >= GUARD + count ? guard : first + (uint32_t)(i - GUARD) * step;
+    }
+}
+
 /* A(i,k) * B(k,j) into D(i,j), with guard words on both sides of D. */
 typedef struct {
     nezgrak_layout a, b, d;
@@ -31,12 +39,7 @@ static inline matrices two_by_two(void)
         nezgrak_layout_of("kj", extents[1], strides[1], 2, 0),
         nezgrak_layout_of("ij", extents[2], strides[2], 2, 0),
         {1, 2, 3, 4, 5, 6}, {1, 0, 2, 0, 1, 1}, {0}};
-    for (int i = 0; i < GUARD; i++) {
-        m.d_words[i] = m.d_words[GUARD + WORDS + i] = guard;
-    }
-    for (int i = 0; i < WORDS; i++) {
-        m.d_words[GUARD + i] = 100 * (uint32_t)(i + 1);
-    }
+    fill(m.d_words, WORDS, 100, 100);
     return m;
 }
 

@@ -16,12 +16,7 @@ typedef struct {
 static contraction product(void)
 {
     contraction c = {two_by_two(), {0}, WORK, 1, 1, 2, UNSET, UNSET, 0, 8, UNSET, 0, 0, 0};
-    for (int i = 0; i < GUARD; i++) {
-        c.work[i] = c.work[GUARD + WORK + i] = guard;
-    }
-    for (int i = 0; i < WORK; i++) {
-        c.work[GUARD + i] = 50 + (uint32_t)i;
-    }
+    fill(c.work, WORK, 50, 1);
     return c;
 }
 

@@ -1,8 +1,9 @@
 """The questions before any work are the same wherever a user reads them.
 
-README.md and docs/RULES.md have 1 to 13 and the job file's 20 to 23. The header and the Rust crate have 1 to 13: none of their calls reads a job file.
-docs/RULES.md and the header put each question in the same words. README.md and the crate say in the same words what refuses. A question and what refuses have the
-same figures, in the same order, and name the same things. In the header and the crate × is written *.
+README.md and docs/RULES.md have 1 to 13, with 30 right after 6, and the job file's 20 to 23. The header and the Rust crate have 1 to 13 and 30: none of their
+calls reads a job file. In the header 30 stands at the first call that asks it. docs/RULES.md and the header put each question in the same words. README.md
+and the crate say in the same words what refuses. A question and what refuses have the same figures, in the same order, and name the same things. In the
+header and the crate × is written *.
 """
 
 import re
@@ -12,15 +13,15 @@ from files import contents
 
 README, RULES, HEADER, CRATE = "README.md", "docs/RULES.md", "include/nezgrak.h", "rust/src/refusal.rs"
 JOB_FILE = "docs/JOB-FILE.md"
-OF_CALLS, OF_JOB_FILES = [*range(1, 14)], [*range(20, 24)]
-NUMBERS = {README: OF_CALLS + OF_JOB_FILES, RULES: OF_CALLS + OF_JOB_FILES, HEADER: OF_CALLS, CRATE: OF_CALLS}
+OF_CALLS, OF_JOB_FILES = [*range(1, 7), 30, *range(7, 14)], [*range(20, 24)]
+NUMBERS = {README: OF_CALLS + OF_JOB_FILES, RULES: OF_CALLS + OF_JOB_FILES, HEADER: [*range(1, 14), 30], CRATE: OF_CALLS}
 
 TABLE_ROW = r"^\| (\d+) \| (.+?) \|"  # the number and the column after it
 HEADER_ROW = r"^ \*     (\d+)  (.+(?:\n \*        .+)*)"
 ROWS = {README: TABLE_ROW, RULES: TABLE_ROW, JOB_FILE: TABLE_ROW, HEADER: HEADER_ROW, CRATE: r'^ +(\d+) => (?:\{\s*)?"((?:[^"\\]|\\\n)+)"'}
 
 FIGURE = re.compile(r"-?\d+(?:,\d{3})*")
-THING = re.compile(r"\b(?:tensor|letter|extent|stride|base|slice|label|entry|rows|cols|depth|work|tile|total|group|mark|record|go\b)")
+THING = re.compile(r"\b(?:C\b|tensor|letter|extent|stride|base|slice|label|entry|rows|cols|depth|work|tile|total|group|mark|record|go\b)")
 
 
 def rows_of(path):
@@ -85,31 +86,43 @@ def spelled(text):
 
 
 def asked_in_readme():
+    """What each call asks without C, and then what each asks with C."""
     rows = re.findall(r"^\| (\d+) \| .+ \| (.+) \|$", contents(README), re.M)
-    return [[int(number) for number, by in rows if call in by or by == "all"] for call in ("plain calls", "tile calls", "state questions")]
+    calls = [["all", call, *named] for named in ([], ["calls with C"]) for call in ("plain calls", "tile calls", "state questions")]
+    return [[int(number) for number, by in rows if set(by.split(", ")) & set(call)] for call in calls]
 
 
 def asked_in_header():
-    """A call asks what its comment names of another call, and then its own rows."""
-    asked = []
-    for comment in re.findall(r"/\*((?:(?!\*/).)*)\*/\nuint32_t nezgrak_", contents(HEADER), re.S):
-        named = re.findall(r"is no: (.*) of nezgrak_\w+, then$", comment, re.M)
-        asked.append(spelled(" ".join(named)) + [int(number) for number, _ in re.findall(HEADER_ROW, comment, re.M)])
-    return asked
+    """A call asks what its comment names of other calls, and its own rows, in the order in which they stand there."""
+    named = re.compile(r"(?:is no:|then) (\d[\d, toand]*) of nezgrak_|^ \*     (\d+)  ", re.M)
+    comments = re.findall(r"/\*((?:(?!\*/).)*)\*/\nuint32_t nezgrak_", contents(HEADER), re.S)
+    return [spelled(" ".join(numbers or row for numbers, row in named.findall(comment))) for comment in comments]
 
 
 def asked_in_sentence(path, sentence):
-    """Such a sentence has three lists of numbers, each in place of an N."""
+    """Such a sentence has lists of numbers, each in place of an N."""
     found = re.search(sentence.replace("N", r"(\d[\d, toand]*)"), contents(path).replace("\n///", ""))
     expect(found, path, "does not say which call asks which questions")
     return [spelled(numbers) for numbers in found.groups()]
 
 
+def with_more(numbers, more, before):
+    """The same questions with one more, right after another one."""
+    return [asked for number in numbers for asked in ([number] + more if [number] == before else [number])]
+
+
 def check_callers():
     asked = asked_in_sentence(RULES, r"The plain call asks N, a tile call N, a state question N\.")
+    more, before = asked_in_sentence(RULES, r"Where C is named, each asks N right after N\.")
+    with_c = [with_more(numbers, more, before) for numbers in asked]
     in_crate = asked_in_sentence(CRATE, r"\[`contract\(\)`\]\S* asks N, \[`run_tiles\(\)`\]\S* N, and \[`state\(\)`\]\S* N\.")
-    for path, asked_there in (README, asked_in_readme()), (HEADER, asked_in_header()), (CRATE, in_crate):
-        expect(len(asked_there) == 3, path, "has", len(asked_there), "calls with questions")
-        for call, numbers, numbers_there in zip(["the plain call", "a tile call", "a state question"], asked, asked_there):
-            agree(f"what {call} asks", RULES, numbers, path, numbers_there)
+    of_file, more, before = asked_in_sentence(JOB_FILE, "the questions of a tile call are asked, N, and where C is named N right after N ")
+    said = {
+        README: (asked + with_c, asked_in_readme()),
+        HEADER: (asked + with_c, asked_in_header()),
+        CRATE: (with_c, in_crate),
+        JOB_FILE: ([asked[1], with_c[1]], [of_file, with_more(of_file, more, before)]),
+    }
+    for path, (wanted, there) in said.items():
+        agree("which call asks which questions", RULES, wanted, path, there)
         yield f"{path} and {RULES}: which call asks which questions"

@@ -41,6 +41,9 @@ def check_readme():
     expect(f"`{plain}`" in text, "README.md does not say that the plain example prints", plain)
     yield "README.md: what the plain example prints"
     parts = [block for language, block in blocks if language in ("rust", "c") and block not in [copy[2] for copy in shown]]
-    whole = contents("rust/examples/tiles.rs") + contents("examples/tiles.c")
-    expect(parts and all("\n" + part in whole for part in parts), "README.md has code that is in no example, or none for tiles")
-    yield "README.md: the heart of the tiles example"
+    for name in "tiles", "shared_start":
+        whole = contents(f"rust/examples/{name}.rs") + contents(f"examples/{name}.c")
+        expect(any("\n" + part in whole for part in parts), "README.md has no code for the example", name)
+        parts = [part for part in parts if "\n" + part not in whole]
+        yield f"README.md: the heart of the example {name}"
+    expect(not parts, "README.md has code that is in no example:", *parts)

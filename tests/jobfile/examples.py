@@ -7,6 +7,7 @@ from running import ROOT, contents
 
 JOBS = os.path.join(ROOT, "examples", "jobs")
 EXAMPLES = ["bat_call", "diagonal", "empty_layer", "matrix", "matrix_three_tiles", "refused", "reversed"]
+EXAMPLES += ["shared_floor_one", "shared_floor_two"]
 
 
 def check_examples(bench):

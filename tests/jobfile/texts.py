@@ -5,14 +5,18 @@ import random
 import re
 
 from checking import expect
-from files import GOOD, byte_words, go, job_with, layout, words
+from files import C, GOOD, GOOD_WITH_C, byte_words, go, job_with, layout, words
 from running import brief
 
 
-def changed(line, text):
-    lines = GOOD.split("\n")
+def changed(line, text, whole=GOOD):
+    lines = whole.split("\n")
     lines[line - 1] = text
     return "\n".join(lines)
+
+
+def changed_with_c(line, text):
+    return changed(line, text, GOOD_WITH_C)
 
 
 NOT_UTF8 = GOOD.encode().replace(b"words D", b"# \xff\nwords D")
@@ -26,7 +30,7 @@ BAD_TEXTS = [
     ("statements out of order", changed(1, "layout B kj extents 3 2 strides 1 3"), 1, "out of order"),
     ("words before the layout", changed(3, "words B 1"), 3, "'layout B' is due"),
     ("bytes of another tensor", changed(4, "bytes A 1"), 4, "'words B' is due"),
-    ("a tensor that is not there", changed(5, "layout C -"), 5, "'layout D' is due"),
+    ("a tensor that is not there", changed(5, "layout E -"), 5, "'layout D' is due"),
     ("a layout without a tensor", changed(1, "layout"), 1, "'layout A' is due"),
     ("words twice", changed(3, "words A 7"), 3, "out of order"),
     ("go too early", changed(5, "go rows 1 cols 1 depth 1"), 5, "out of order"),
@@ -85,6 +89,24 @@ BAD_TEXTS = [
     ("alpha above", changed(7, "go rows 1 cols 1 depth 2 alpha 0x100000000"), 7, "outside"),
     ("a text that is not UTF-8", NOT_UTF8, 6, "not UTF-8"),
     ("a zero byte", changed(3, "\0"), 3, "unknown statement"),
+    ("no words of C", changed_with_c(6, ""), 7, "'layout D' stands where 'words C' is due"),
+    ("no layout of C", changed_with_c(5, ""), 6, "'words C' stands where 'layout C' is due"),
+    ("byte words of C", changed_with_c(6, "bytes C 10 20"), 6, "C has no byte words; 'words C' is due"),
+    ("byte words of C without a layout", changed(5, "bytes C"), 5, "'bytes C' stands where 'layout C' is due"),
+    ("C after D", changed(7, "layout C -\nwords C 1\ngo"), 5, "'layout D' stands where 'layout C' is due"),
+    ("C before B", changed(3, "layout C -\nwords C 1\nlayout B -"), 3, "'layout C' stands where 'layout B' is due"),
+    ("C between B's statements", changed(4, "layout C -"), 4, "'layout C' stands where 'words B' is due"),
+    ("C twice", changed_with_c(6, "words C 1\nlayout C -"), 7, "'layout C' stands where 'layout D' is due"),
+    ("two layouts of C", changed_with_c(6, "layout C -"), 6, "'layout C' stands where 'words C' is due"),
+    ("words of C twice", changed_with_c(6, "words C 1\nwords C 1"), 7, "'words C' stands where 'layout D' is due"),
+    ("a text that ends in C", GOOD_WITH_C[: GOOD_WITH_C.index("words C")], 5, "'words C' is missing"),
+    ("a text that ends after C", GOOD_WITH_C[: GOOD_WITH_C.index("layout D")], 6, "'layout D' is missing"),
+    ("a text that ends after B", GOOD[: GOOD.index("layout D")], 4, "'layout D' is missing"),
+    ("C in small letters", changed(5, "layout c -"), 5, "'layout c' stands where 'layout D' is due"),
+    ("C as a key", changed(7, "go C 1"), 7, "unknown key 'C'"),
+    ("nine letters of C", changed_with_c(5, "layout C abcdefghi extents 1*9 strides 1*9"), 5, "9 letters"),
+    ("4,097 words of C", changed_with_c(6, "words C 7*4096 8"), 6, "more than 4,096 words"),
+    ("a word of C above", changed_with_c(6, "words C 4294967296"), 6, "word '4294967296' is outside"),
 ]
 
 
@@ -155,6 +177,22 @@ GOOD_TEXTS = [
     ("line ends of another system", GOOD.replace("\n", "\r\n"), job_with()),
     ("a byte order mark", "\ufeff" + GOOD, job_with()),
     ("no last line end", GOOD.rstrip("\n"), job_with()),
+    ("C", GOOD_WITH_C, job_with(**C)),
+    (
+        "C without letters and words",
+        changed_with_c(5, "layout C - base 5").replace("words C 10 20", "words C"),
+        job_with(C_layout=layout(b"C", b"", [], [], 5), C_words=words(b"C", [])),
+    ),
+    (
+        "4,096 words of C",
+        changed_with_c(6, "words C -1*4095\n  0x7"),
+        job_with(**{**C, "C_words": words(b"C", [2**32 - 1] * 4095 + [7])}),
+    ),
+    (
+        "a letter C of another tensor",
+        changed(1, "layout A C extents 2 strides 1"),
+        job_with(A_layout=layout(b"A", b"C", [2], [1])),
+    ),
 ]
 
 
@@ -178,9 +216,9 @@ def check_good_texts(bench):
 def check_damaged_texts(bench):
     """Random texts give a job file that the program reads, or one message with a line of the text."""
     rng = random.Random(3)
-    pieces = [b"", b" ", b"*", b"-", b"#", b"\n", b"\n ", b"\\x", b"\0", b"\xff", b"go", b"0x", b"A", b"9" * 50]
+    pieces = [b"", b" ", b"*", b"-", b"#", b"\n", b"\n ", b"\\x", b"\0", b"\xff", b"go", b"0x", b"A", b"C", b"9" * 50]
     for _ in range(500):
-        text = GOOD.encode()
+        text = rng.choice([GOOD, GOOD_WITH_C]).encode()
         for _ in range(rng.randrange(1, 4)):
             at = rng.randrange(len(text))
             text = text[:at] + rng.choice(pieces) + text[at + rng.randrange(3) :]

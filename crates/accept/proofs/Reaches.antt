@@ -1,7 +1,7 @@
 -- The address words that the tile code forms from a plan are the addresses of entries, each inside its slice. To reduce a part of a sum of words first
 -- changes nothing, folding keeps offsets and sizes, and a place adds the counts of just the groups that its tensor has.
 -- Assumes nothing.
-use mathlib.Core.Path.{_≡_, sym, ap, _∙_}
+use mathlib.Core.Path.{_≡_, refl, sym, ap, _∙_}
 use mathlib.Core.Bool.{true}
 use mathlib.Core.List.{List, [], _∷_}
 use Prim.Native.Nat.{ℕ, _+_, _*_, _≤_, _<_, max}
@@ -35,9 +35,9 @@ use Rattle.plan.proofs.GroupsFoldable.{group-foldable, fold-foldable}
 use Rattle.plan.proofs.GroupSizes.{group-points}
 use Rattle.plan.proofs.Reached.{index-inside, reached-index}
 use Rattle.tiles.specs.declared.grid.Sizes.{Sizes}
-use Rattle.tile_blocks.specs.Side.{Side, left, right, both, tensorOn, groupOn, sizeOn}
-use Rattle.tile_blocks.specs.ContractionInTiles.{cutOf, addressAt}
-use Rattle.tile_blocks.specs.Planned.{placeIn, placeD, planCut, Clear, PlanFits}
+use Rattle.tile_blocks.specs.Side.{Side, left, right, tensorOn, groupOn}
+use Rattle.tile_blocks.specs.ContractionInTiles.{cutOf, outputIndex, addressAt}
+use Rattle.tile_blocks.specs.Planned.{placeIn, placeOut, planCut, PlanFits}
 use Rattle.tile_questions.specs.TileQuestions.{sizesFit}
 use Rattle.tile_questions.proofs.TileSizes.{sizes-limited}
 
@@ -113,19 +113,15 @@ module _ (c : Contraction) (n : Operand → ℕ) (ok : AllPassed (tensors c) n) 
   side-entry left h m k bh bm bk = reached A (groupCounts h m m k) (bk, (bh, (bm, tt))) (steps-whole _ _ _ _) (omega arith)
   side-entry right h m k bh bm bk = reached B (groupCounts h m m k) (bk, (bh, (bm, tt))) (steps-whole _ _ _ _) (omega arith)
 
-  output-entry : (h i j : ℕ) → h < size (group (shapeIn c) batch) → i < size (group (shapeIn c) row) → j < size (group (shapeIn c) column)
-      → Entry D (placeD p h i j) (index (shapeIn c) ((batch, h) ∷ (row, i) ∷ (column, j) ∷ []))
-  unfolding placeD index group
-  output-entry h i j bh bi bj = reached D (groupCounts h i j 0) (bh, (bi, (bj, tt))) (steps _ _ _ _) (omega arith)
+  -- of C and of D, which have the same groups
+  pub out-entry : (o : Operand) → groupsOf o ≡ groupsOf D → (h i j : ℕ)
+      → h < size (group (shapeIn c) batch) → i < size (group (shapeIn c) row) → j < size (group (shapeIn c) column) → Entry o (placeOut p o h i j) (outputIndex c h i j)
+  unfolding placeOut index group
+  out-entry o e h i j bh bi bj =
+      let off : Group → ℕ → ℕ = λ g n. offsetIn (wordOf 64) o (labelsIn (planned p g)) n in
+      rw e at (reached o (groupCounts h i j 0) (rw e (bh, (bi, (bj, tt)))) {x = wordsIn (p .base) o + off batch h + off column j + off row i} (steps _ _ _ _) (rw e (omega arith)))
 
   pub reaches-d : (h i j : ℕ) → h < size (group (shapeIn c) batch) → i < size (group (shapeIn c) row) → j < size (group (shapeIn c) column)
-      → placeD p h i j ≡ addressAt c h i j
+      → placeOut p D h i j ≡ addressAt c h i j
   unfolding addressAt
-  reaches-d h i j bh bi bj = output-entry h i j bh bi bj .is
-
-  pub clear : (z : Sizes) → Clear p (cutOf c z) (n A) (n B) (n D)
-  clear z = record { inSide = in-side; inD = λ h i j bh bi bj. output-entry h i j bh bi bj .inside }
-    where
-      in-side : (s : Side) (h m k : ℕ) → h < cutOf c z .H → m < sizeOn (cutOf c z) s → k < cutOf c z .K → placeIn p s h m k < both (n A) (n B) s
-      in-side left h m k bh bm bk = side-entry left h m k bh bm bk .inside
-      in-side right h m k bh bm bk = side-entry right h m k bh bm bk .inside
+  reaches-d h i j bh bi bj = out-entry D refl h i j bh bi bj .is

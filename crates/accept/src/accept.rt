@@ -55,7 +55,7 @@ impl Accept {
 
     // Questions 1 to 10, the plan and the grid.
     pub fn of(c: Contraction, z: Sizes, n: Lengths) -> Accept
-        ensures { λ r. ⌜ AcceptOf c z (lengths n) r ⌝ }
+        ensures { λ r. ⌜ AcceptOf c z (lengths c n) r ⌝ }
     {
         let x = first_no(c, n);
         let number = size_refusal(x.number, z);

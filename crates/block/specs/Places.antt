@@ -1,12 +1,13 @@
 -- The code's blocks of offsets, and the places that they address. Inside contracts only.
 -- Assumes nothing.
-use Prim.Native.Nat.{ℕ, _+_, min, _≤_}
+use Prim.Native.Nat.{ℕ, _+_, min, _<_, _≤_}
 use mathlib.Core.Path.{_≡_}
 use mathlib.Core.Bool.{cond}
 use mathlib.Core.List.{List}
 use lib.Dec.{ltb}
 use lib.ListN.{getD}
 use Rattle.words.specs.Words.{word}
+use Rattle.words.specs.Loops.{Within}
 use Rattle.limits.specs.Limits.{blockLimit}
 use Rattle.block.specs.Block.{Step, even, scattered, blockStep}
 use Rattle.block.specs.declared.block.Step.{Step as StepCode}
@@ -26,6 +27,10 @@ pub record BlockOf (count : ℕ) (offsets : List ℕ) (b : Block) : Type 0 where
 -- the address of place i of a block that begins at `from`
 abbrev pub placeOf : ℕ → List ℕ → ℕ → ℕ
 placeOf from offsets i = word 64 (from + getD offsets i 0)
+
+-- from each of the first n places of another block, each place of a block is one of a slice of `size` words
+pub record PlacesIn (from : ℕ) (outer : List ℕ) (n : ℕ) (offsets : List ℕ) (count size : ℕ) : Type 0 where
+  pub each : (c : ℕ) → c < n → Within count (placeOf (placeOf from outer c) offsets) size
 
 -- from the address `at` of a place to that of the next, place i: by the step, or by the offsets, of which there are none past the limit
 abbrev pub nextPlace : ℕ → ℕ → List ℕ → Step → ℕ → ℕ

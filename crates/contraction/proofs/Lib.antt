@@ -1,4 +1,4 @@
+pub mod Again
 pub mod OrderCases
-pub mod SliceLengths
 pub mod TensorPlaces
 pub mod Together

@@ -1,6 +1,7 @@
--- The tensors of a contraction. A fourth is one more case here.
+-- The tensors of a contraction. Another one is one more case here.
 -- Assumes nothing.
 use Prim.Native.Nat.{ℕ}
+use mathlib.Core.Bool.{Bool, true, false, cond}
 use mathlib.Core.List.{List, [], _∷_, _++_}
 use Rattle.layout.specs.declared.layout.Axis.{Axis}
 use Rattle.layout.specs.declared.layout.Layout.{Layout}
@@ -8,29 +9,44 @@ use Rattle.layout.specs.Layout.{axes}
 use Rattle.contraction.specs.declared.contraction.Contraction.{Contraction}
 use Rattle.contraction.specs.declared.contraction.Lengths.{Lengths}
 
--- A and B are read, D is read and written
+-- A, B and C are read, D is read and written
 pub data Operand : Type 0 where
-  A B D : Operand
+  A B C D : Operand
 
 abbrev pub operands : List Operand
-operands = A ∷ B ∷ D ∷ []
+operands = A ∷ B ∷ C ∷ D ∷ []
 
 -- one thing for each tensor
-abbrev pub three : {X : Type 0} → X → X → X → Operand → X
-three a b d A = a
-three a b d B = b
-three a b d D = d
+abbrev pub four : {X : Type 0} → X → X → X → X → Operand → X
+four a b c d A = a
+four a b c d B = b
+four a b c d C = c
+four a b c d D = d
 
--- the contraction of these layouts and factors
+-- without C: D stands for it
+abbrev pub three : {X : Type 0} → X → X → X → Operand → X
+three a b d = four a b d d
+
+-- the contraction of these layouts and factors, with C where it is named; without C; with C
+abbrev pub contractionIf : Bool → Layout → Layout → Layout → Layout → ℕ → ℕ → Contraction
+contractionIf named a b c d alpha beta = record { a = a; b = b; c = c; d = d; named = named; alpha = alpha; beta = beta }
+
 abbrev pub contractionOf : Layout → Layout → Layout → ℕ → ℕ → Contraction
-contractionOf a b d alpha beta = record { a = a; b = b; d = d; alpha = alpha; beta = beta }
+contractionOf a b d = contractionIf false a b d d
+
+abbrev pub contractionWithC : Layout → Layout → Layout → Layout → ℕ → ℕ → Contraction
+contractionWithC = contractionIf true
+
+-- one thing for each tensor of a contraction; where it names no C, D stands for it
+abbrev pub ofTensors : {X : Type 0} → Contraction → X → X → X → X → Operand → X
+ofTensors k a b c d = four a b (cond (k .named) c d) d
 
 abbrev pub tensors : Contraction → Operand → Layout
-tensors c = three (c .a) (c .b) (c .d)
+tensors k = ofTensors k (k .a) (k .b) (k .c) (k .d)
 
 -- how many words each tensor's slice has
-abbrev pub lengths : Lengths → Operand → ℕ
-lengths n = three (n .a) (n .b) (n .d)
+abbrev pub lengths : Contraction → Lengths → Operand → ℕ
+lengths k n = ofTensors k (n .a) (n .b) (n .c) (n .d)
 
 -- the axes of each tensor
 abbrev pub Shape : Type 0
@@ -39,6 +55,6 @@ Shape = Operand → List Axis
 abbrev pub shape : (Operand → Layout) → Shape
 shape t o = axes (t o)
 
--- the axes of all tensors in the order in which groups take their letters: D's, then A's, then B's
+-- the axes of all tensors in the order in which groups take their letters: D's, then A's, then B's; C has D's letters (30)
 unfoldable pub together : Shape → List Axis
-together s = s D ++ (s A ++ s B)
+together s = s D ++ (s A ++ (s B ++ s C))

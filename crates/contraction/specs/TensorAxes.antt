@@ -1,6 +1,7 @@
 -- The code's lists of the axes of the tensors, each and together, once questions 1 to 5 passed. Inside contracts only.
 -- Assumes nothing.
 use mathlib.Core.Path.{_≡_}
+use mathlib.Core.Bool.{false}
 use Rattle.layout.specs.declared.layout.Layout.{Layout}
 use Rattle.layout.specs.declared.axes.Axes.{Axes}
 use Rattle.layout.specs.Listed.{listed}
@@ -10,12 +11,12 @@ use Rattle.labels.specs.Labels.{labels}
 use Rattle.labels.specs.LetterSets.{Spells}
 use Rattle.labels.specs.Lettered.{Lettered}
 use Rattle.contraction.specs.declared.operands.Operands.{Operands}
-use Rattle.contraction.specs.Operands.{Operand, three, Shape, tensors, together}
+use Rattle.contraction.specs.Operands.{Operand, four, Shape, tensors, together}
 use Rattle.contraction.specs.declared.contraction.Contraction.{Contraction}
 
 -- the code's list of axes, beside its letters, for each tensor
 abbrev pub labelledIn : Operands → Operand → Labelled
-labelledIn x = three (x .a) (x .b) (x .d)
+labelledIn x = four (x .a) (x .b) (x .c) (x .d)
 
 abbrev pub axesIn : Operands → Operand → Axes
 axesIn x o = labelledIn x o .axes
@@ -37,9 +38,10 @@ pub record ListedFrom (c : Contraction) (x : Operand → Labelled) : Type 0 wher
 pub record AllLettered (x : Operand → Labelled) : Type 0 where
   pub each : (o : Operand) → Lettered (x o)
 
--- and the letters of all are there
+-- and the letters of all are there; where C is not named, its axes are D's
 pub record Gathered (x : Operands) : Type 0 where
   pub each : (o : Operand) → Lettered (labelledIn x o)
+  pub stands : x .named ≡ false → x .c ≡ x .d
   pub all : Spells (x .letters) (labels (together (shapeOf x)))
 
 -- the code's record of these lists

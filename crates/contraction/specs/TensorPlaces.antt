@@ -3,16 +3,17 @@
 use Prim.Native.Nat.{ℕ}
 use mathlib.Core.List.{List}
 use lib.ListN.{getD}
-use Rattle.contraction.specs.Operands.{Operand, A, B, D, operands}
+use Rattle.contraction.specs.Operands.{Operand, A, B, C, D, operands}
 
 -- how many tensors there are
 abbrev pub tensorCount : ℕ
-tensorCount = 3
+tensorCount = 4
 
 abbrev pub operandNumber : Operand → ℕ
 operandNumber A = 0
 operandNumber B = 1
-operandNumber D = 2
+operandNumber C = 2
+operandNumber D = 3
 
 -- the tensor at a place
 abbrev pub operandAt : ℕ → Operand

@@ -59,10 +59,12 @@ pub fn contraction_in(file: &[u8], job: JobParts) -> Contraction
     requires { ⌜ JobHeld (now file) job ⌝ }
     ensures { λ r. ⌜ r ≡ contractionIn (jobIn (now (file .entry)) job) ⌝ }
 {
-    Contraction::new(
+    Contraction::of(
         layout_in(file, job.a.layout),
         layout_in(file, job.b.layout),
+        layout_in(file, job.c.layout),
         layout_in(file, job.d.layout),
+        job.named,
         job.go.alpha,
         job.go.beta,
     )

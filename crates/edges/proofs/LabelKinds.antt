@@ -6,7 +6,7 @@ use Rattle.words.specs.Sums.{sumTo}
 use Rattle.layout.specs.Layout.{axesOf, layoutOf, axes, address}
 use Rattle.validity.specs.TensorQuestions.{rankFits, countsMatch, lettersValid, extentsValid, stridesValid, sizesValid}
 use Rattle.labels.specs.Labels.{labels}
-use Rattle.points.specs.LabelQuestions.{extentsAgree, points, pointsFit}
+use Rattle.points.specs.LabelQuestions.{extentsAgree, lettersSame, points, pointsFit}
 use Rattle.entries.specs.EntryQuestions.{hasEntries, span, inside, below, stridesApart, apart}
 use Rattle.contraction.specs.Operands.{together}
 use Rattle.tensor_answers.specs.OwnQuestions.{tensorQuestions}
@@ -22,7 +22,7 @@ use Rattle.tiled.specs.TileCall.{stateCall}
 use Rattle.edges.specs.LabelKinds.{LabelKindCases}
 
 pub label-kind-cases : LabelKindCases
-unfolding each put sumTo axesOf layoutOf axes address rankFits countsMatch lettersValid extentsValid stridesValid sizesValid labels extentsAgree points pointsFit hasEntries span inside below stridesApart apart together tensorQuestions labelQuestions entryQuestions layoutQuestions groupOf inGroup group outputs index outIndex entry value result blocks MB NB KB total tileNumber done doneCount stateAt addressAt sizesFit sizeQuestion doneQuestion indexQuestion acceptQuestions stateQuestions stateCall
+unfolding each put sumTo axesOf layoutOf axes address rankFits countsMatch lettersValid extentsValid stridesValid sizesValid labels extentsAgree lettersSame points pointsFit hasEntries span inside below stridesApart apart together tensorQuestions labelQuestions entryQuestions layoutQuestions groupOf inGroup group outputs index outIndex entry value result blocks MB NB KB total tileNumber done doneCount stateAt addressAt sizesFit sizeQuestion doneQuestion indexQuestion acceptQuestions stateQuestions stateCall
 label-kind-cases =
     record {
       accepted = refl;

@@ -1,5 +1,5 @@
--- The ten small cases of the rules that are proved, and layers with nothing in them, as one table, each quoted above its rows. Strides 1, beta 0, alpha 1
--- unless given.
+-- The ten small cases of the rules that are proved, layers with nothing in them, and a named C, as one table, each quoted above its rows. Strides 1, beta 0,
+-- alpha 1 unless given.
 -- Assumes nothing.
 use Prim.Native.Nat.{ℕ}
 use mathlib.Core.Path.{_≡_}
@@ -8,7 +8,7 @@ use lib.IntN.{ℤ, pos, negsuc}
 use Rattle.layout.specs.declared.layout.Layout.{Layout}
 use Rattle.layout.specs.Layout.{layoutOf}
 use Rattle.contraction.specs.declared.contraction.Contraction.{Contraction}
-use Rattle.contraction.specs.Operands.{three, contractionOf}
+use Rattle.contraction.specs.Operands.{four, three, contractionOf, contractionWithC}
 use Rattle.questions.specs.QuestionCases.{scalar}
 use Rattle.groups.specs.Groups.{Label}
 use Rattle.folding.specs.Fold.{fold}
@@ -43,6 +43,10 @@ diagonal e s f u = layoutOf (105 ∷ 105 ∷ []) (e ∷ f ∷ []) (s ∷ u ∷ [
 -- alpha 1, beta 0
 abbrev plain : Layout → Layout → Layout → Contraction
 plain a b d = contractionOf a b d 1 0
+
+-- A and B without letters, and a layout for C; D is `i`, extent 2, stride 2; alpha 1, beta 2
+abbrev starting : Layout → Contraction
+starting c = contractionWithC scalar scalar c (vector 2 (pos 2) 0) 1 2
 
 abbrev pub edges : List Edge
 edges =
@@ -86,4 +90,14 @@ edges =
     ∷ gives (plain (vector 0 (pos 1) 0) (vector 0 (pos 1) 0) (vector 0 (pos 1) 0)) (three [] [] (8 ∷ [])) (8 ∷ [])
     -- 13. Extent 65,537: 4.
     ∷ asked (plain (vector 65537 (pos 0) 0) scalar scalar) (three (1 ∷ []) (1 ∷ []) (0 ∷ [])) 4
+    -- 14. A 2, B 3, D `i` extent 2 stride 2, words 7 8 9, beta 2. C `i` base 1 stride -1, words 10 20: 46 8 26. C stride 0, word 5: 16 8 16. C `ii` strides
+    -- 1 2, words 1 2 3 4: 8 8 14. C with D's words and layout: what is left without C.
+    ∷ gives (starting (vector 2 (negsuc 0) 1)) (four (2 ∷ []) (3 ∷ []) (10 ∷ 20 ∷ []) (7 ∷ 8 ∷ 9 ∷ [])) (46 ∷ 8 ∷ 26 ∷ [])
+    ∷ gives (starting (vector 2 (pos 0) 0)) (four (2 ∷ []) (3 ∷ []) (5 ∷ []) (7 ∷ 8 ∷ 9 ∷ [])) (16 ∷ 8 ∷ 16 ∷ [])
+    ∷ gives (starting (diagonal 2 (pos 1) 2 (pos 2))) (four (2 ∷ []) (3 ∷ []) (1 ∷ 2 ∷ 3 ∷ 4 ∷ []) (7 ∷ 8 ∷ 9 ∷ [])) (8 ∷ 8 ∷ 14 ∷ [])
+    ∷ gives (starting (vector 2 (pos 2) 0)) (four (2 ∷ []) (3 ∷ []) (7 ∷ 8 ∷ 9 ∷ []) (7 ∷ 8 ∷ 9 ∷ [])) (20 ∷ 8 ∷ 24 ∷ [])
+    ∷ gives (contractionOf scalar scalar (vector 2 (pos 2) 0) 1 2) (three (2 ∷ []) (3 ∷ []) (7 ∷ 8 ∷ 9 ∷ [])) (20 ∷ 8 ∷ 24 ∷ [])
+    -- 15. C without letters, or with a letter more: 30.
+    ∷ asked (starting scalar) (four (2 ∷ []) (3 ∷ []) (5 ∷ []) (7 ∷ 8 ∷ 9 ∷ [])) 30
+    ∷ asked (starting (matrix 2 (pos 0) 1 (pos 0))) (four (2 ∷ []) (3 ∷ []) (5 ∷ []) (7 ∷ 8 ∷ 9 ∷ [])) 30
     ∷ []

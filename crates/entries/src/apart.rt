@@ -48,7 +48,7 @@ fn sum_below(x: Labelled, c: u32) -> u64
     let mut sum: u64 = 0;
     while 0 < i {
         i -= 1;
-        sum = share(x.axes, c, all.letters[i]) + sum;
+        sum = share(x.axes, c, all.letters[i] as u32) + sum;
     }
     sum
 }
@@ -63,7 +63,7 @@ fn strides_apart(x: Labelled) -> bool
     let mut apart = true;
     while 0 < i {
         i -= 1;
-        let c = all.letters[i];
+        let c = all.letters[i] as u32;
         apart = ((extent_of(x.axes, c) <= 1) | (sum_below(x, c) < stride_size(x.axes, c))) & apart;
     }
     apart

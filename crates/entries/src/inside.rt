@@ -59,7 +59,7 @@ pub fn reach_of(x: Labelled) -> Reach
     };
     while 0 < i {
         i -= 1;
-        let c = all.letters[i];
+        let c = all.letters[i] as u32;
         reach = reach.with(extent_of(x.axes, c), stride_of(x.axes, c));
     }
     reach

@@ -15,4 +15,5 @@ flat-layout-cases =
       counts-apart = refl;
       ninth-letter = refl;
       tensors = refl;
+      tensors-with-c = refl;
     }

@@ -1,1 +1,2 @@
 pub mod FlatLayoutCases
+pub mod Made

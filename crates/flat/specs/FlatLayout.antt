@@ -11,7 +11,7 @@ use Rattle.words.specs.Words.{signed}
 use Rattle.layout.specs.declared.layout.Layout.{Layout}
 use Rattle.layout.specs.Layout.{layoutOf}
 use Rattle.contraction.specs.declared.contraction.Contraction.{Contraction}
-use Rattle.contraction.specs.Operands.{contractionOf}
+use Rattle.contraction.specs.Operands.{contractionOf, contractionWithC}
 
 -- the words from one place on, as many as the word at another place says: what is past them means nothing
 unfoldable pub counted : List ℕ → ℕ → ℕ → List ℕ
@@ -29,3 +29,7 @@ flatLayout words =
 -- the contraction of three such layouts and the factors
 abbrev pub flatContraction : List ℕ → List ℕ → List ℕ → ℕ → ℕ → Contraction
 flatContraction a b d alpha beta = contractionOf (flatLayout a) (flatLayout b) (flatLayout d) alpha beta
+
+-- and of four
+abbrev pub flatContractionWithC : List ℕ → List ℕ → List ℕ → List ℕ → ℕ → ℕ → Contraction
+flatContractionWithC a b c d alpha beta = contractionWithC (flatLayout a) (flatLayout b) (flatLayout c) (flatLayout d) alpha beta

@@ -5,8 +5,8 @@ use mathlib.Core.Path.{_≡_}
 use mathlib.Core.List.{List, [], _∷_, _++_}
 use lib.IntN.{pos, negsuc}
 use Rattle.layout.specs.Layout.{layoutOf}
-use Rattle.contraction.specs.Operands.{contractionOf}
-use Rattle.flat.specs.FlatLayout.{flatLayout, flatContraction}
+use Rattle.contraction.specs.Operands.{contractionOf, contractionWithC}
+use Rattle.flat.specs.FlatLayout.{flatLayout, flatContraction, flatContractionWithC}
 
 -- i and k are 105 and 107; 255 is the last letter that is read as it is, and 361 is 256 + 105
 abbrev pub eightLetters : List ℕ
@@ -37,3 +37,6 @@ pub record FlatLayoutCases : Type 0 where
   -- A's, B's and D's, then alpha and beta
   pub tensors : flatContraction (said 0 0 0 1) (said 0 0 0 2) (said 0 0 0 3) 4 5
       ≡ contractionOf (layoutOf [] [] [] 1) (layoutOf [] [] [] 2) (layoutOf [] [] [] 3) 4 5
+  -- C's between B's and D's
+  pub tensors-with-c : flatContractionWithC (said 0 0 0 1) (said 0 0 0 2) (said 0 0 0 3) (said 0 0 0 4) 5 6
+      ≡ contractionWithC (layoutOf [] [] [] 1) (layoutOf [] [] [] 2) (layoutOf [] [] [] 3) (layoutOf [] [] [] 4) 5 6

@@ -11,4 +11,6 @@ fold-cases =
       neighbours = refl;
       zero-stays = refl;
       zero-joined = refl;
+      c-follows = refl;
+      c-steps-out = refl;
     }

@@ -13,7 +13,7 @@ use Rattle.words.specs.Lists.{keep, cons-if}
 use Rattle.words.specs.Words.{up, down}
 use Rattle.words.proofs.Whole.{up-mul, down-mul}
 use Rattle.words.proofs.Sums.{every-all}
-use Rattle.contraction.specs.Operands.{Operand, A, B, D, operands}
+use Rattle.contraction.specs.Operands.{Operand, A, B, C, D, operands}
 use Rattle.groups.specs.Groups.{Label, size}
 use Rattle.offsets.specs.Counts.{offset}
 use Rattle.folding.specs.Fold.{eqℤ, follows, joins, join, joinFrom, joinAll, notOne, fold}
@@ -88,7 +88,8 @@ joins-stride p l t o = eqℤ→eq _ _ (each o (every-all (follows p l) operands 
     each : (o : Operand) → All (λ o. T (follows p l o)) operands → T (follows p l o)
     each A h = h .0
     each B h = h .1 .0
-    each D h = h .1 .1 .0
+    each C h = h .1 .1 .0
+    each D h = h .1 .1 .1 .0
 
 -- a part of a stride goes with the extents, where it is proportional
 scales : (part : ℤ → ℕ) → ((e : ℕ) (s : ℤ) → part (pos e *ℤ s) ≡ e * part s) → (o : Operand) → Scales (λ l. part (l .stride o))

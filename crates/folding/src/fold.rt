@@ -5,7 +5,7 @@ ghost use lib.Dec.{ltb};
 ghost use lib.IntN.{pos, natAbs, _*ℤ_};
 ghost use Rattle.words.specs.Words.{signed};
 ghost use Rattle.words.specs.Lists.{keep};
-ghost use Rattle.limits.specs.Limits.{axesLimit};
+ghost use Rattle.limits.specs.Limits.{labelsLimit};
 ghost use Rattle.labels.specs.LetterSets.{has};
 ghost use Rattle.groups.specs.Held.{asLabel, labelsIn};
 ghost use Rattle.groups.specs.Foldable.{Small, Foldable};
@@ -88,8 +88,8 @@ fn merged(p: Dim, l: Dim, joins: bool) -> Dim
 
 // The labels of the letters that the set has, with labels of extent 1 dropped and labels that step together joined.
 pub fn folded(g: Group, set: u64) -> Group
-    requires { ⌜ (g .count ≤ axesLimit) × Foldable (keep (λ l. has set (l .letter)) (labelsIn g)) ⌝ }
-    ensures { λ r. ⌜ (labelsIn r ≡ fold (keep (λ l. has set (l .letter)) (labelsIn g))) × (r .count ≤ axesLimit) ⌝ }
+    requires { ⌜ (g .count ≤ labelsLimit) × Foldable (keep (λ l. has set (l .letter)) (labelsIn g)) ⌝ }
+    ensures { λ r. ⌜ (labelsIn r ≡ fold (keep (λ l. has set (l .letter)) (labelsIn g))) × (r .count ≤ labelsLimit) ⌝ }
 {
     let count = g.count;
     let mut out = Group::none();

@@ -12,7 +12,7 @@ use Rattle.layout.specs.Listed.{listed}
 use Rattle.labels.specs.Labels.{strideOf, extentOf}
 use Rattle.labels.proofs.Facts.{signed-stride}
 use Rattle.contraction.specs.declared.operands.Operands.{Operands}
-use Rattle.contraction.specs.Operands.{Operand, A, B, D, together}
+use Rattle.contraction.specs.Operands.{Operand, A, B, C, D, together}
 use Rattle.contraction.specs.TensorPlaces.{byTensor}
 use Rattle.contraction.specs.TensorAxes.{axesIn, shapeOf, Gathered}
 use Rattle.groups.specs.declared.groups.Dim.{Dim}
@@ -36,7 +36,9 @@ labels-last dims n = ap (map asLabel) (firstOf-suc n noDim dims) ∙ map-append 
 
 -- the address words of a letter's strides, in an array by tensor
 abbrev strideWords : Operands → ℕ → List ℕ
-strideWords x c = wordOf 64 (strideOf c (listed (x .a .axes))) ∷ wordOf 64 (strideOf c (listed (x .b .axes))) ∷ wordOf 64 (strideOf c (listed (x .d .axes))) ∷ []
+strideWords x c =
+    let at : Operand → ℕ = λ o. wordOf 64 (strideOf c (shapeOf x o)) in
+    at A ∷ at B ∷ at C ∷ at D ∷ []
 
 -- a letter's label: its extent in all axes together, and its strides by their address words
 pub as-label : (x : Operands) → Gathered x → (c : ℕ)
@@ -50,4 +52,5 @@ as-label x h c =
     same : (o : Operand) → signed 64 (byTensor (strideWords x c) o) ≡ strideOf c (shapeOf x o)
     same A = word A
     same B = word B
+    same C = word C
     same D = word D

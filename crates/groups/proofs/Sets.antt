@@ -1,13 +1,13 @@
 -- The four groups as sets of letters: of the letters of all tensors together, each set has just those of its group.
 -- Assumes nothing.
-use mathlib.Core.Path.{_≡_, refl, sym, _∙_}
-use mathlib.Core.Bool.{Bool, true, false, not, _&&_, _||_, true≢false}
-use mathlib.Core.List.{_++_, map, map-append}
+use mathlib.Core.Path.{_≡_, refl, _∙_}
+use mathlib.Core.Bool.{Bool, true, false, not, _&&_, _||_}
+use mathlib.Core.List.{map}
 use Prim.Native.Nat.{ℕ}
 use lib.Dec.{eqb}
 use Rattle.words.specs.Sums.{All}
 use Rattle.words.specs.Lists.{keep, member}
-use Rattle.words.proofs.Lists.{T-true, all-imp, all-both, all-map, distinct-members, all-once, keep-ext, member-append, member-once}
+use Rattle.words.proofs.Lists.{T-true, all-imp, all-map, all-once, keep-ext, member-once}
 use Rattle.words.proofs.Sums.{every-all}
 use Rattle.layout.specs.declared.layout.Axis.{Axis}
 use Rattle.layout.specs.Layout.{lettersOf}
@@ -31,7 +31,7 @@ abbrev pub inSet : Group → Bool → Bool → Bool → Bool
 inSet batch a b d = (a && b) && d
 inSet column a b d = (b && d) && not a
 inSet row a b d = d && not (((a && b) && d) || ((b && d) && not a))
-inSet depth a b d = (a || b) && not d
+inSet depth a b d = not d
 
 pub split-set : (a b d : ℕ) (r : Sets) → Split a b d r → (g : Group) (c : ℕ) → has (setsIn r g) c ≡ inSet g (has a c) (has b c) (has d c)
 split-set a b d r s batch c = s .batch c
@@ -45,16 +45,16 @@ of-each P b r c d row = r
 of-each P b r c d column = c
 of-each P b r c d depth = d
 
--- a letter that one of the three has is in the set of its group and in no other
-set-group : (a b d : Bool) → (d || (a || b)) ≡ true → (g : Group) → inSet g a b d ≡ eqb (groupNumber (groupBy a b d)) (groupNumber g)
-set-group true true true h = of-each _ refl refl refl refl
-set-group true true false h = of-each _ refl refl refl refl
-set-group true false true h = of-each _ refl refl refl refl
-set-group true false false h = of-each _ refl refl refl refl
-set-group false true true h = of-each _ refl refl refl refl
-set-group false true false h = of-each _ refl refl refl refl
-set-group false false true h = of-each _ refl refl refl refl
-set-group false false false h = absurd (true≢false (sym h))
+-- a letter is in the set of its group and in no other
+set-group : (a b d : Bool) (g : Group) → inSet g a b d ≡ eqb (groupNumber (groupBy a b d)) (groupNumber g)
+set-group true true true = of-each _ refl refl refl refl
+set-group true true false = of-each _ refl refl refl refl
+set-group true false true = of-each _ refl refl refl refl
+set-group true false false = of-each _ refl refl refl refl
+set-group false true true = of-each _ refl refl refl refl
+set-group false true false = of-each _ refl refl refl refl
+set-group false false true = of-each _ refl refl refl refl
+set-group false false false = of-each _ refl refl refl refl
 
 module _ (x : Operands) (h : Gathered x) where
   -- a tensor's set has just its letters
@@ -77,29 +77,16 @@ module _ (x : Operands) (h : Gathered x) where
   kept-output l e =
       rw (keep-ext (has (l .set)) (λ c. member c (letters (shapeOf x) D)) (labels (together (shapeOf x))) (all-imp (has-letter D l e) (labels (together (shapeOf x))) valid))
 
-  somewhere : All (λ c. (member c (letters (shapeOf x) D) || (member c (letters (shapeOf x) A) || member c (letters (shapeOf x) B))) ≡ true) (labels (together (shapeOf x)))
-  unfolding labels together
-  somewhere = all-imp (λ c e. sym (spread c) ∙ e) (labels (together (shapeOf x))) (distinct-members (lettersOf (together (shapeOf x))))
-    where
-      spread : (c : ℕ) → member c (lettersOf (together (shapeOf x))) ≡ (member c (letters (shapeOf x) D) || (member c (letters (shapeOf x) A) || member c (letters (shapeOf x) B)))
-      spread c =
-          rw (
-            map-append (λ (a : Axis). a .letter) (shapeOf x D) (shapeOf x A ++ shapeOf x B),
-            map-append (λ (a : Axis). a .letter) (shapeOf x A) (shapeOf x B),
-            member-append c (letters (shapeOf x) D) (letters (shapeOf x) A ++ letters (shapeOf x) B),
-            member-append c (letters (shapeOf x) A) (letters (shapeOf x) B),
-          )
-
   module _ (ls : Operand → Letters) (spelt : (o : Operand) → Spells (ls o) (labels (shapeOf x o))) (r : Sets) (s : Split (ls A .set) (ls B .set) (ls D .set) r) (g : Group) where
     in-set : All (λ c. has (setsIn r g) c ≡ inGroup (shapeOf x) g c) (labels (together (shapeOf x)))
     unfolding inGroup groupOf
-    in-set = all-imp each (labels (together (shapeOf x))) (all-both _ _ (labels (together (shapeOf x))) valid somewhere)
+    in-set = all-imp each (labels (together (shapeOf x))) valid
       where
-        each : (c : ℕ) → (isLetter c ≡ true) × ((member c (letters (shapeOf x) D) || (member c (letters (shapeOf x) A) || member c (letters (shapeOf x) B))) ≡ true)
+        each : (c : ℕ) → isLetter c ≡ true
             → has (setsIn r g) c ≡ eqb (groupNumber (groupBy (member c (letters (shapeOf x) A)) (member c (letters (shapeOf x) B)) (member c (letters (shapeOf x) D)))) (groupNumber g)
         each c v =
-            rw (split-set (ls A .set) (ls B .set) (ls D .set) r s g c, has-letter A (ls A) (spelt A) c (v .0), has-letter B (ls B) (spelt B) c (v .0), has-letter D (ls D) (spelt D) c (v .0))
-            (set-group (member c (letters (shapeOf x) A)) (member c (letters (shapeOf x) B)) (member c (letters (shapeOf x) D)) (v .1) g)
+            rw (split-set (ls A .set) (ls B .set) (ls D .set) r s g c, has-letter A (ls A) (spelt A) c v, has-letter B (ls B) (spelt B) c v, has-letter D (ls D) (spelt D) c v)
+            (set-group (member c (letters (shapeOf x) A)) (member c (letters (shapeOf x) B)) (member c (letters (shapeOf x) D)) g)
 
     -- the labels of the letters that a group's set has are the group
     pub kept-group : map (label (shapeOf x)) (keep (has (setsIn r g)) (labels (together (shapeOf x)))) ≡ group (shapeOf x) g

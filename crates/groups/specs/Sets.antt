@@ -18,7 +18,7 @@ pub record Split (a b d : ℕ) (r : Sets) : Type 0 where
   pub batch : (c : ℕ) → has (r .batch) c ≡ ((has a c && has b c) && has d c)
   pub column : (c : ℕ) → has (r .column) c ≡ ((has b c && has d c) && not (has a c))
   pub row : (c : ℕ) → has (r .row) c ≡ (has d c && not (has (r .batch) c || has (r .column) c))
-  pub depth : (c : ℕ) → has (r .depth) c ≡ ((has a c || has b c) && not (has d c))
+  pub depth : (c : ℕ) → has (r .depth) c ≡ not (has d c)
 
 -- the code's set for each of the four groups
 abbrev pub setsIn : Sets → Group → ℕ

@@ -1,10 +1,13 @@
 ghost use mathlib.Core.Path.{_≡_};
+ghost use mathlib.Core.Bool.{false};
 ghost use mathlib.Core.List.{[], map};
 ghost use Prim.Native.Nat.{_≤_};
 ghost use lib.ListN.{length, drop};
-ghost use Rattle.limits.specs.Limits.{axesLimit};
-ghost use Rattle.labels.specs.Labels.{labels};
-ghost use Rattle.contraction.specs.Operands.{together};
+ghost use Rattle.words.specs.Words.{wordOf};
+ghost use Rattle.limits.specs.Limits.{labelsLimit};
+ghost use Rattle.validity.specs.Checked.{Checked};
+ghost use Rattle.labels.specs.Labels.{strideOf, labels};
+ghost use Rattle.contraction.specs.Operands.{C, D, together};
 ghost use Rattle.contraction.specs.TensorAxes.{shapeOf, Gathered};
 ghost use Rattle.groups.specs.Groups.{label, size};
 ghost use Rattle.groups.specs.Held.{asLabel, labelsIn};
@@ -13,6 +16,7 @@ ghost use Rattle.groups.specs.Sets.{Split, Grouped};
 use contraction::contraction::Contraction;
 use contraction::operands::Operands;
 use labels::labels::stride_of;
+use labels::letter_sets::wide;
 use limits::limits::Limits;
 
 // A label, or several that were joined, with its extent and its stride in each tensor as an address word.
@@ -24,7 +28,7 @@ pub struct Dim {
 
 // The labels of a group in order, the fastest first.
 pub struct Group {
-    pub dims: [Dim; Limits::AXES],
+    pub dims: [Dim; Limits::LABELS],
     pub count: usize,
 }
 
@@ -54,8 +58,19 @@ fn sets_of(a: u64, b: u64, d: u64) -> Sets
         batch,
         row: d & !(batch | column),
         column,
-        depth: (a | b) & !d,
+        depth: !d,
     }
+}
+
+// The stride of a letter in C. Where C is not named, that is its stride in D, which is `d`.
+fn stride_in_c(x: Operands, c: u32, d: u64) -> u64
+    requires { ⌜ Checked (x .c .axes) × (x .named ≡ false → x .c ≡ x .d) × (d ≡ wordOf 64 (strideOf c (shapeOf x D))) ⌝ }
+    ensures { λ r. ⌜ r ≡ wordOf 64 (strideOf c (shapeOf x C)) ⌝ }
+{
+    if !x.named {
+        return d;
+    }
+    stride_of(x.c.axes, c)
 }
 
 // A letter's label.
@@ -63,10 +78,12 @@ fn dim_of(x: Operands, c: u32) -> Dim
     requires { ⌜ Gathered x ⌝ }
     ensures { λ r. ⌜ asLabel r ≡ label (shapeOf x) c ⌝ }
 {
+    let in_d = stride_of(x.d.axes, c);
     let strides = [
         stride_of(x.a.axes, c),
         stride_of(x.b.axes, c),
-        stride_of(x.d.axes, c),
+        stride_in_c(x, c, in_d),
+        in_d,
     ];
     Dim {
         letter: c,
@@ -77,7 +94,7 @@ fn dim_of(x: Operands, c: u32) -> Dim
 
 impl Group {
     pub fn none() -> Group
-        ensures { λ r. ⌜ (labelsIn r ≡ []) × (r .count ≡ 0) × (length (r .dims) ≡ axesLimit) ⌝ }
+        ensures { λ r. ⌜ (labelsIn r ≡ []) × (r .count ≡ 0) × (length (r .dims) ≡ labelsLimit) ⌝ }
     {
         let strides = [0u64; Contraction::TENSORS];
         let empty = Dim {
@@ -86,14 +103,14 @@ impl Group {
             strides,
         };
         Group {
-            dims: [empty; Limits::AXES],
+            dims: [empty; Limits::LABELS],
             count: 0,
         }
     }
 
     // The product of the extents of the labels from a place on.
     pub fn size_from(self, start: usize) -> u32
-        requires { ⌜ (self .count ≤ axesLimit) × (start ≤ self .count) × Foldable (labelsIn self) ⌝ }
+        requires { ⌜ (self .count ≤ labelsLimit) × (start ≤ self .count) × Foldable (labelsIn self) ⌝ }
         ensures { λ r. ⌜ r ≡ size (drop start (labelsIn self)) ⌝ }
     {
         let mut product: u32 = 1;
@@ -107,17 +124,17 @@ impl Group {
     }
 }
 
-// Every label of a contraction, in order of first appearance in D's, A's and B's letters.
+// Every label of a contraction, in order of first appearance in D's, A's, B's and C's letters.
 pub fn labels_of(x: Operands) -> Group
-    requires { ⌜ Gathered x ⌝ }
-    ensures { λ r. ⌜ (labelsIn r ≡ map (label (shapeOf x)) (labels (together (shapeOf x)))) × (r .count ≤ axesLimit) ⌝ }
+    requires { ⌜ Gathered x × (length (labels (together (shapeOf x))) ≤ labelsLimit) ⌝ }
+    ensures { λ r. ⌜ (labelsIn r ≡ map (label (shapeOf x)) (labels (together (shapeOf x)))) × (r .count ≤ labelsLimit) ⌝ }
 {
     let letters = x.letters;
     let count = letters.count;
     let mut group = Group::none();
     let mut i: usize = 0;
     while i < count {
-        group.dims[i] = dim_of(x, letters.letters[i]);
+        group.dims[i] = dim_of(x, wide(letters.letters[i]));
         i += 1;
         group.count = i;
     }

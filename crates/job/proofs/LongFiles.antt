@@ -3,7 +3,7 @@
 -- Assumes nothing.
 use Prim.Native.Nat.{ℕ, zero, suc, _+_, _*_, _<_, _≤_}
 use mathlib.Core.Path.{_≡_, refl, ap}
-use mathlib.Core.Bool.{Bool, true, false, not}
+use mathlib.Core.Bool.{Bool, true, false, not, cond}
 use mathlib.Core.List.{List}
 use native.Mathlib.Nat.{mul-le-mul-left}
 use native.Mathlib.Omega.{arith}
@@ -14,11 +14,12 @@ use borrow.Author.Tests.{leb-true, le-leb, ne-eqb, eqb-false, not-true}
 use Rattle.words.proofs.Tabulate.{tabulate-ext}
 use Rattle.limits.specs.Limits.{rankLimit, jobLimit, fileRoom}
 use Rattle.little_endian.specs.Bytes.{has, little, numbers}
-use Rattle.marks.specs.Marks.{letterA, letterB, letterD, kindOf, isLayout, wordWidth, isGo}
+use Rattle.marks.specs.Marks.{letterA, letterB, letterC, letterD, kindOf, isLayout, wordWidth, isGo}
 use Rattle.records.specs.Records.{Reading, got, fileRefused, check, then, Tensor, kindAt, layoutAt, layoutRecord, wordsRecord, wordsAfter, tensorRecords}
 use Rattle.records.proofs.Reading.{wide-of, few-bytes}
+use Rattle.go.specs.declared.go.Go.{Go}
 use Rattle.go.specs.Record.{goAt, goRecord}
-use Rattle.jobfile.specs.Format.{fromGo, fromD, fromB, readJob}
+use Rattle.jobfile.specs.Format.{Job, jobOf, jobWithC, fromGo, fromD, fromC, fromB, readJob}
 use Rattle.job.specs.Run.{readingText, jobText}
 
 -- bytes of the longest records
@@ -35,7 +36,7 @@ abbrev goRoom : ℕ
 goRoom = 24
 
 abbrev jobRoom : ℕ
-jobRoom = 3 * tensorRoom + goRoom
+jobRoom = 4 * tensorRoom + goRoom
 
 -- ---- readings that are the same
 
@@ -58,6 +59,10 @@ module _ {X : Type 0} {m : ℕ} where
   alike-check : (b : Bool) (number : ℕ) {x y : Reading X} → (b ≡ true → Alike m x y) → Alike m (check b number x) (check b number y)
   alike-check true number k = k refl
   alike-check false number k = alike-refused number
+
+  alike-cond : (b : Bool) {x y v w : Reading X} → Alike m x v → Alike m y w → Alike m (cond b x y) (cond b v w)
+  alike-cond true p q = p
+  alike-cond false p q = q
 
   alike-then : {Y : Type 0} {n : ℕ} {x y : Reading X} {p q : X → ℕ → Reading Y}
       → Alike m x y → ((v : X) (next : ℕ) → next ≤ m → Alike n (p v next) (q v next)) → Alike n (then x p) (then y q)
@@ -154,19 +159,32 @@ module _ {L : ℕ} {f g : List ℕ} (c : Front L f g) where
       alike-then (alike-words m t next (omega arith) k) (λ words end j. alike-got refl j))
 
   -- after `GO` neither file is at its end
-  alike-end : (m : ℕ) (a b d : Tensor) (at : ℕ) → at + goRoom ≤ m → m < L → Alike m (fromGo f a b d at) (fromGo g a b d at)
+  alike-end : (m : ℕ) (job : Go → Job) (at : ℕ) → at + goRoom ≤ m → m < L → Alike m (fromGo f job at) (fromGo g job at)
   unfolding fromGo
-  alike-end m a b d at h k =
+  alike-end m job at h k =
       alike-then (alike-go m at h (omega arith)) (λ go end j.
       rw (ne-eqb end (length f) (λ e. omega arith), ne-eqb end (length g) (λ e. omega arith)) (alike-refused 22))
 
+  -- D's records and `GO`, from `at` on
+  alike-d : (m : ℕ) (job : Tensor → Go → Job) (at : ℕ) → at + (tensorRoom + goRoom) ≤ m → m < L → Alike m (fromD f job at) (fromD g job at)
+  unfolding fromD
+  alike-d m job at h k =
+      alike-then (alike-tensor (at + tensorRoom) letterD at (omega arith) (omega arith)) (λ d next i. alike-end m (job d) next (omega arith) k)
+
+  -- before them C's, where they are there
+  alike-c : (m : ℕ) (a b : Tensor) (at : ℕ) → at + (2 * tensorRoom + goRoom) ≤ m → m < L → Alike m (fromC f a b at) (fromC g a b at)
+  unfolding fromC
+  alike-c m a b at h k =
+      rw (le-leb (at + 2) (length f) (omega arith), le-leb (at + 2) (length g) (omega arith), kind-same at (omega arith))
+      (alike-cond (isLayout letterC (kindAt g at))
+      (alike-then (alike-tensor (at + tensorRoom) letterC at (omega arith) (omega arith)) (λ c next i. alike-d m (jobWithC a b c) next (omega arith) k))
+      (alike-d m (jobOf a b) at (omega arith) k))
+
   alike-job : jobRoom < L → Alike jobRoom (readJob f) (readJob g)
-  unfolding readJob fromB fromD
+  unfolding readJob fromB
   alike-job h =
       alike-then (alike-tensor tensorRoom letterA 0 (omega arith) (omega arith)) (λ a i ia.
-      alike-then (alike-tensor (2 * tensorRoom) letterB i (omega arith) (omega arith)) (λ b j jb.
-      alike-then (alike-tensor (3 * tensorRoom) letterD j (omega arith) (omega arith)) (λ d k kd.
-      alike-end jobRoom a b d k (omega arith) h)))
+      alike-then (alike-tensor (2 * tensorRoom) letterB i (omega arith) (omega arith)) (λ b j jb. alike-c jobRoom a b j (omega arith) h))
 
 front : (n : ℕ) (file : List ℕ) → n ≤ length file → Front n (take n file) file
 front n file h = record { left = omega (arith, length-take-le n file h); right = h; byte = λ i j. getD-take n file i 0 j }

@@ -8,7 +8,7 @@ use lib.ListN.{length}
 use lib.Seq.{length-take-le}
 use Rattle.io.specs.Counts.{Counts}
 use Rattle.contraction.specs.declared.contraction.Contraction.{Contraction}
-use Rattle.contraction.specs.Operands.{three}
+use Rattle.contraction.specs.Operands.{four}
 use Rattle.little_endian.specs.declared.numbers.Cursor.{Cursor}
 use Rattle.records.specs.RecordParts.{mapReading, wordsOf}
 use Rattle.jobfile.specs.declared.reader.JobParts.{JobParts}
@@ -31,11 +31,11 @@ put-counted out {r} {out′} text′ e same p =
     (q, (room, sym (length-take-le r out′ room)))
 
 -- the text of the call that a job asks for
-pub job-text : (file : List ℕ) (p : JobParts) {c : Contraction} {a b d : List ℕ} → c ≡ contractionIn (jobIn file p)
-    → a ≡ wordsOf file (p .a .words) → b ≡ wordsOf file (p .b .words) → d ≡ wordsOf file (p .d .words)
-    → tileText c (p .go .sizes) (three a b d) (p .go .done) (p .go .budget) ≡ runText (jobIn file p)
+pub job-text : (file : List ℕ) (p : JobParts) {k : Contraction} {a b c d : List ℕ} → k ≡ contractionIn (jobIn file p)
+    → a ≡ wordsOf file (p .a .words) → b ≡ wordsOf file (p .b .words) → c ≡ wordsOf file (p .c .words) → d ≡ wordsOf file (p .d .words)
+    → tileText k (p .go .sizes) (four a b c d) (p .go .done) (p .go .budget) ≡ runText (jobIn file p)
 unfolding runText tileText
-job-text file p ec ea eb ed = rw (ec, ea, eb, ed)
+job-text file p ek ea eb ec ed = rw (ek, ea, eb, ec, ed)
 
 -- the text of what was read of a file
 module _ (file : List ℕ) {read : JobRead} (reads : mapReading (jobIn file) (jobParts read) ≡ readJob file) where

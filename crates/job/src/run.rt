@@ -15,23 +15,26 @@ use jobfile::reader::read_job;
 use limits::limits::Limits;
 use report::report::put_refused;
 
-// A job that was read: its words in arrays of its own, one call.
+// A job that was read: its words in arrays of its own, one call. Where C is not named, D's words stand for its own.
 fn put_job(file: &[u8], job: JobParts, out: &mut [u8]) -> usize
     requires { ⌜ JobHeld (now file) job × (textRoom ≤ length (now out)) ⌝ }
     ensures { λ r. ⌜ Begins (now (out .entry)) (runText (jobIn (now (file .entry)) job)) r (now (out .exit)) ⌝ }
 {
     let count_a = job.a.words.count;
     let count_b = job.b.words.count;
+    let count_c = job.c.words.count;
     let count_d = job.d.words.count;
-    let c = contraction_in(file, job);
+    let k = contraction_in(file, job);
     let a = job_words(file, job.a.words);
     let b = job_words(file, job.b.words);
+    let c = job_words(file, job.c.words);
     let mut d = job_words(file, job.d.words);
     put_call(
-        c,
+        k,
         job.go.sizes,
         &a[..count_a],
         &b[..count_b],
+        &c[..count_c],
         &mut d[..count_d],
         job.go.done,
         job.go.budget,

@@ -9,7 +9,7 @@ use lib.ListN.{length, replicate}
 use Rattle.words.specs.Lists.{tabulate}
 use Rattle.limits.specs.Limits.{jobLimit, workRoom, textRoom}
 use Rattle.contraction.specs.declared.contraction.Contraction.{Contraction}
-use Rattle.contraction.specs.Operands.{three}
+use Rattle.contraction.specs.Operands.{four}
 use Rattle.tiles.specs.declared.grid.Sizes.{Sizes}
 use Rattle.tiles.specs.Cut.{total}
 use Rattle.tile_blocks.specs.ContractionInTiles.{cutOf}
@@ -41,22 +41,22 @@ zeros zero = refl
 zeros (suc n) = ap (λ (l : List ℕ). 0 ∷ l) (zeros n)
 
 -- the text of what a tile call answered, o, with D's words after it, d′
-module _ (c : Contraction) (z : Sizes) (a b d : List ℕ) (done budget : ℕ) where
-  answer-text : (n : ℕ) {x : TileAnswer} {d′ work′ : List ℕ} → tileCallOf x d′ work′ ≡ tileCall c z (three a b d) (replicate n 0) done budget
-      → answerText c z (three a b d) x d′ ≡ callText c z (three a b d) (tileCall c z (three a b d) (tabulate n (λ k. 0)) done budget)
+module _ (k : Contraction) (z : Sizes) (a b c d : List ℕ) (done budget : ℕ) where
+  answer-text : (n : ℕ) {x : TileAnswer} {d′ work′ : List ℕ} → tileCallOf x d′ work′ ≡ tileCall k z (four a b c d) (replicate n 0) done budget
+      → answerText k z (four a b c d) x d′ ≡ callText k z (four a b c d) (tileCall k z (four a b c d) (tabulate n (λ i. 0)) done budget)
   unfolding callText
   answer-text n gives = rw (← zeros n, ← gives)
 
-  module _ {o : Outcome} {d′ work′ : List ℕ} (gives : tileCallOf (tileAnswer o) d′ work′ ≡ tileCall c z (three a b d) (replicate workRoom 0) done budget) where
+  module _ {o : Outcome} {d′ work′ : List ℕ} (gives : tileCallOf (tileAnswer o) d′ work′ ≡ tileCall k z (four a b c d) (replicate workRoom 0) done budget) where
     -- it ran: the letters are asked of D's words after it, which are as many as before
     module _ {t : ℕ} {full : Bool} (is : o ≡ Outcome.Ran t full) (kept : length d′ ≡ length d) where
-      pub ran-asks : Accepted c z (three a b d′)
-      ran-asks = accepted-same c z a b d d′ (sym kept) (ran-accepted c z (three a b d) (replicate workRoom 0) done budget (rw is at gives))
+      pub ran-asks : Accepted k z (four a b c d′)
+      ran-asks = accepted-same k z a b c d d′ (sym kept) (ran-accepted k z (four a b c d) (replicate workRoom 0) done budget (rw is at gives))
 
-      pub ran-text : reportText t (total (cutOf c z)) d′ (stateLetters c z (three a b d′) t) ≡ tileText c z (three a b d) done budget
+      pub ran-text : reportText t (total (cutOf k z)) d′ (stateLetters k z (four a b c d′) t) ≡ tileText k z (four a b c d) done budget
       unfolding answerText tileText
-      ran-text = rw (letters-same c z a b d′ d t kept) (answer-text workRoom (rw is at gives))
+      ran-text = rw (letters-same k z a b c d′ d t kept) (answer-text workRoom (rw is at gives))
 
-    pub refused-text : {number t : ℕ} → o ≡ Outcome.Refused number t → refusedText number ≡ tileText c z (three a b d) done budget
+    pub refused-text : {number t : ℕ} → o ≡ Outcome.Refused number t → refusedText number ≡ tileText k z (four a b c d) done budget
     unfolding answerText tileText
     refused-text is = answer-text workRoom (rw is at gives)

@@ -1,1 +1,2 @@
 pub mod JobFileCases
+pub mod Standing

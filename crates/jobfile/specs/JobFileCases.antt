@@ -1,12 +1,14 @@
--- Four job files, byte by byte, and what is read.
+-- Five job files, byte by byte, and what is read.
 -- Assumes nothing.
 use Prim.Native.Nat.{ℕ, _/_, _%_}
 use mathlib.Core.Path.{_≡_}
+use mathlib.Core.Bool.{true, false}
 use mathlib.Core.List.{List, [], _∷_, _++_}
 use lib.IntN.{pos, negsuc}
 use Rattle.words.specs.Texts.{codes}
 use Rattle.layout.specs.Layout.{layoutOf}
-use Rattle.records.specs.Records.{got, fileRefused, tensor}
+use Rattle.records.specs.Records.{got, fileRefused, Tensor, tensor}
+use Rattle.go.specs.declared.go.Go.{Go}
 use Rattle.jobfile.specs.Format.{Job, jobOf, readJob}
 
 -- a number in two bytes, and in four, the least significant first
@@ -22,21 +24,50 @@ fours [] = []
 fours (n ∷ ns) = four n ++ fours ns
 
 -- "A `ik`, extents 2 3, strides 1 2, words 1 2 3 4 5 6; B `kj`, 3 2, 1 3, words 1 0 2 0 1 1; D `ij`, 2 2, 1 2, words 100 200 300 400; bases 0, alpha 1, beta 2,
--- rows 1, cols 1, depth 2, done 0, budget 3": the rules' example, as a file and as a job
-abbrev pub exampleFile : List ℕ
-exampleFile =
+-- rows 1, cols 1, depth 2, done 0, budget 3": the rules' example, as a file, up to B's words and from D's layout on, and as a job
+abbrev upToB : List ℕ
+upToB =
     codes "LA" ++ 2 ∷ codes "ik" ++ fours (2 ∷ 3 ∷ 1 ∷ 2 ∷ 0 ∷ []) ++ codes "WA" ++ fours (6 ∷ 1 ∷ 2 ∷ 3 ∷ 4 ∷ 5 ∷ 6 ∷ [])
     ++ codes "LB" ++ 2 ∷ codes "kj" ++ fours (3 ∷ 2 ∷ 1 ∷ 3 ∷ 0 ∷ []) ++ codes "WB" ++ fours (6 ∷ 1 ∷ 0 ∷ 2 ∷ 0 ∷ 1 ∷ 1 ∷ [])
-    ++ codes "LD" ++ 2 ∷ codes "ij" ++ fours (2 ∷ 2 ∷ 1 ∷ 2 ∷ 0 ∷ []) ++ codes "WD" ++ fours (4 ∷ 100 ∷ 200 ∷ 300 ∷ 400 ∷ [])
+
+abbrev dAndGo : List ℕ
+dAndGo =
+    codes "LD" ++ 2 ∷ codes "ij" ++ fours (2 ∷ 2 ∷ 1 ∷ 2 ∷ 0 ∷ []) ++ codes "WD" ++ fours (4 ∷ 100 ∷ 200 ∷ 300 ∷ 400 ∷ [])
     ++ codes "GO" ++ four 1 ++ four 2 ++ two 1 ++ two 1 ++ two 2 ++ four 0 ++ four 3
 
+abbrev pub exampleFile : List ℕ
+exampleFile = upToB ++ dAndGo
+
+abbrev exampleA : Tensor
+exampleA = tensor (layoutOf (codes "ik") (2 ∷ 3 ∷ []) (pos 1 ∷ pos 2 ∷ []) 0) (1 ∷ 2 ∷ 3 ∷ 4 ∷ 5 ∷ 6 ∷ [])
+
+abbrev exampleB : Tensor
+exampleB = tensor (layoutOf (codes "kj") (3 ∷ 2 ∷ []) (pos 1 ∷ pos 3 ∷ []) 0) (1 ∷ 0 ∷ 2 ∷ 0 ∷ 1 ∷ 1 ∷ [])
+
+abbrev exampleD : Tensor
+exampleD = tensor (layoutOf (codes "ij") (2 ∷ 2 ∷ []) (pos 1 ∷ pos 2 ∷ []) 0) (100 ∷ 200 ∷ 300 ∷ 400 ∷ [])
+
+abbrev exampleGo : Go
+exampleGo = record { alpha = 1; beta = 2; sizes = record { rows = 1; cols = 1; depth = 2 }; done = 0; budget = 3 }
+
 abbrev pub exampleJob : Job
-exampleJob =
-    jobOf
-    (tensor (layoutOf (codes "ik") (2 ∷ 3 ∷ []) (pos 1 ∷ pos 2 ∷ []) 0) (1 ∷ 2 ∷ 3 ∷ 4 ∷ 5 ∷ 6 ∷ []))
-    (tensor (layoutOf (codes "kj") (3 ∷ 2 ∷ []) (pos 1 ∷ pos 3 ∷ []) 0) (1 ∷ 0 ∷ 2 ∷ 0 ∷ 1 ∷ 1 ∷ []))
-    (tensor (layoutOf (codes "ij") (2 ∷ 2 ∷ []) (pos 1 ∷ pos 2 ∷ []) 0) (100 ∷ 200 ∷ 300 ∷ 400 ∷ []))
-    (record { alpha = 1; beta = 2; sizes = record { rows = 1; cols = 1; depth = 2 }; done = 0; budget = 3 })
+exampleJob = record { a = exampleA; b = exampleB; c = exampleD; d = exampleD; named = false; go = exampleGo }
+
+-- the same with C `ij`, extents 2 2, strides 0 1, words 10 20
+abbrev layoutC : List ℕ
+layoutC = codes "LC" ++ 2 ∷ codes "ij" ++ fours (2 ∷ 2 ∷ 0 ∷ 1 ∷ 0 ∷ [])
+
+abbrev wordsC : List ℕ
+wordsC = codes "WC" ++ fours (2 ∷ 10 ∷ 20 ∷ [])
+
+abbrev pub withCFile : List ℕ
+withCFile = upToB ++ layoutC ++ wordsC ++ dAndGo
+
+abbrev exampleC : Tensor
+exampleC = tensor (layoutOf (codes "ij") (2 ∷ 2 ∷ []) (pos 0 ∷ pos 1 ∷ []) 0) (10 ∷ 20 ∷ [])
+
+abbrev pub withCJob : Job
+withCJob = record { a = exampleA; b = exampleB; c = exampleC; d = exampleD; named = true; go = exampleGo }
 
 -- A's words as bytes; B's first stride -1, from base 1 on; a word of D that the layout skips; 2 rows and 1 column
 abbrev pub skewedFile : List ℕ
@@ -94,3 +125,15 @@ pub record JobFileCases : Type 0 where
   -- "After `GO`, has the file ended? 22. An empty file gives 21"
   pub empty : readJob [] ≡ fileRefused 21
   pub longer : readJob (exampleFile ++ 0 ∷ []) ≡ fileRefused 22
+  -- "In the job file `LC` and `WC` may follow B's words": both or neither, and nowhere else
+  pub with-c : readJob withCFile ≡ got withCJob 220
+  pub c-without-words : readJob (upToB ++ layoutC ++ dAndGo) ≡ fileRefused 20
+  pub c-without-layout : readJob (upToB ++ wordsC ++ dAndGo) ≡ fileRefused 20
+  pub c-in-bytes : readJob (upToB ++ layoutC ++ codes "YC" ++ four 2 ++ 10 ∷ 20 ∷ [] ++ dAndGo) ≡ fileRefused 20
+  pub c-again : readJob (upToB ++ layoutC ++ wordsC ++ layoutC) ≡ fileRefused 20
+  -- "are two bytes there? 21"
+  pub c-cut-off : readJob (upToB ++ codes "L") ≡ fileRefused 21
+  pub c-no-rank : readJob (upToB ++ codes "LC") ≡ fileRefused 21
+  -- "under the same limit of 4,096"
+  pub c-count-4097 : readJob (upToB ++ layoutC ++ codes "WC" ++ four 4097) ≡ fileRefused 23
+  pub c-count-4096 : readJob (upToB ++ layoutC ++ codes "WC" ++ four 4096) ≡ fileRefused 21

@@ -25,7 +25,7 @@ use Rattle.labels.specs.Labels.{labels}
 use Rattle.labels.specs.LetterSets.{spelled, Spells, added}
 
 -- a letter's code is from 65 to 122, so its bit tells it from all other letters
-letter-code : (c : ℕ) → isLetter c ≡ true → (65 ≤ c) × (c ≤ 122)
+pub letter-code : (c : ℕ) → isLetter c ≡ true → (65 ≤ c) × (c ≤ 122)
 letter-code c = go (leb 65 c) (leb c 90) (leb 97 c) (leb c 122) (leb-true 65 c) (leb-true c 90) (leb-true 97 c) (leb-true c 122)
   where
     go : (p q r s : Bool) → (p ≡ true → 65 ≤ c) → (q ≡ true → c ≤ 90) → (r ≡ true → 97 ≤ c) → (s ≡ true → c ≤ 122)

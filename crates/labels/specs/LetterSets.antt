@@ -7,7 +7,7 @@ use mathlib.Core.Bool.{Bool, true, cond}
 use mathlib.Core.List.{List, [], _∷_, _++_}
 use lib.Dec.{eqb}
 use Rattle.words.specs.Lists.{firstOf, member}
-use Rattle.limits.specs.Limits.{axesLimit}
+use Rattle.limits.specs.Limits.{lettersLimit}
 use Rattle.validity.specs.Letters.{isLetter}
 use Rattle.labels.specs.declared.letter_sets.Letters.{Letters}
 
@@ -27,7 +27,7 @@ spelled x = firstOf (x .count) 0 (x .letters)
 pub record Spells (x : Letters) (cs : List ℕ) : Type 0 where
   pub spells : spelled x ≡ cs
   pub sets : (c : ℕ) → isLetter c ≡ true → has (x .set) c ≡ member c cs
-  pub few : x .count ≤ axesLimit
+  pub few : x .count ≤ lettersLimit
 
 -- letters with one more behind them, unless they have it
 abbrev pub added : ℕ → List ℕ → List ℕ

@@ -3,7 +3,7 @@ ghost use mathlib.Core.List.{List, [], _++_};
 ghost use mathlib.Core.Bool.{true, _||_};
 ghost use Prim.Native.Nat.{ℕ, _+_, _%_, _<_, _≤_};
 ghost use lib.Dec.{eqb};
-ghost use Rattle.limits.specs.Limits.{rankLimit, axesLimit};
+ghost use Rattle.limits.specs.Limits.{rankLimit, lettersLimit};
 ghost use Rattle.layout.specs.declared.layout.Axis.{Axis};
 ghost use Rattle.layout.specs.Listed.{listed};
 ghost use Rattle.validity.specs.Letters.{isLetter};
@@ -16,9 +16,16 @@ use limits::limits::Limits;
 
 // Different letters in order, beside the set of them as bits of a 64-bit word.
 pub struct Letters {
-    pub letters: [u32; Limits::AXES],
+    pub letters: [u8; Limits::LETTERS],
     pub count: usize,
     pub set: u64,
+}
+
+// A letter of a list, as a word.
+pub fn wide(c: u8) -> u32
+    ensures { λ r. ⌜ r ≡ c ⌝ }
+{
+    c as u32
 }
 
 fn bit_of(c: u32) -> u32
@@ -47,7 +54,7 @@ impl Letters {
         ensures { λ r. ⌜ Spells r [] ⌝ }
     {
         Letters {
-            letters: [0; Limits::AXES],
+            letters: [0; Limits::LETTERS],
             count: 0,
             set: 0,
         }
@@ -55,7 +62,7 @@ impl Letters {
 
     // The letters with one more behind them, unless they have it.
     fn with(self, c: u32) -> Letters
-        requires { ⌜ Spells self (spelled self) × (self .count < axesLimit) × (isLetter c ≡ true) ⌝ }
+        requires { ⌜ Spells self (spelled self) × (self .count < lettersLimit) × (isLetter c ≡ true) ⌝ }
         ensures { λ r. ⌜ Spells r (added c (spelled self)) × (r .count ≤ self .count + 1) ⌝ }
     {
         let set = self.set;
@@ -64,7 +71,7 @@ impl Letters {
         }
         let n = self.count;
         let mut letters = self.letters;
-        letters[n] = c;
+        letters[n] = c as u8;
         Letters {
             letters,
             count: n + 1,
@@ -74,7 +81,7 @@ impl Letters {
 
     // The letters with those of axes behind them, each unless it is there, in order of first appearance.
     pub fn with_axes(self, x: Axes) -> Letters
-        requires { ⌜ Spells self (spelled self) × Checked x × (self .count + rankLimit ≤ axesLimit) ⌝ }
+        requires { ⌜ Spells self (spelled self) × Checked x × (self .count + rankLimit ≤ lettersLimit) ⌝ }
         ensures { λ r. ⌜ ((xs : List Axis) → Spells self (labels xs) → Spells r (labels (xs ++ listed x)))
             × (r .count ≤ self .count + x .count) ⌝ }
     {

@@ -24,7 +24,7 @@ use Rattle.tiles.specs.Cut.{Cut}
 use Rattle.tiles.specs.Grid.{cutIn}
 use Rattle.tiles.specs.Progress.{State, stateAt}
 use Rattle.tiles.proofs.Sizes.{index-has-tile}
-use Rattle.tile_blocks.specs.Planned.{GridOf, atBatch, placeD}
+use Rattle.tile_blocks.specs.Planned.{GridOf, atBatch, placeOut}
 use Rattle.tile_blocks.specs.TilePlaces.{movedFrom}
 use Rattle.letters.specs.PrintedLetters.{letterOf}
 use Rattle.letters.specs.Placed.{lettered, columnLetters}
@@ -90,8 +90,8 @@ rowPlace g from i = movedFrom from D (labelsIn g) i
 
 -- it is the plan's
 pub plan-place : (p : Plan) (h j : ℕ) {across at from : ℕ} → across ≡ word 64 (offsetIn (wordOf 64) D (labelsIn (planned p column)) j) → at ≡ atBatch p h D → from ≡ word 64 (at + across)
-    → (i : ℕ) → rowPlace (planned p row) from i ≡ placeD p h i j
-unfolding placeD
+    → (i : ℕ) → rowPlace (planned p row) from i ≡ placeOut p D h i j
+unfolding placeOut
 plan-place p h j wc wa wf i = rw (wf, wa, wc)
 
 -- and the one that the code forms
@@ -107,6 +107,6 @@ pub row-next : (G : Cut) (t h j : ℕ) (g : Group) (from i : ℕ) {at letter : �
 unfolding put
 row-next G t h j g from i out f l s = rw (f, l, s)
 
-pub rows-lettered : (p : Plan) (G : Cut) (t h j from : ℕ) → ((i : ℕ) → rowPlace (planned p row) from i ≡ placeD p h i j) → (out : List ℕ)
+pub rows-lettered : (p : Plan) (G : Cut) (t h j from : ℕ) → ((i : ℕ) → rowPlace (planned p row) from i ≡ placeOut p D h i j) → (out : List ℕ)
     → each (G .M) (rowLetter G t h j (planned p row) from) out ≡ each (G .M) (λ i. lettered p G t h i j) out
 rows-lettered p G t h j from same = each-ext (G .M) (λ i b out. ap (λ (x : ℕ). put (λ was. letterOf (stateAt G t h i j)) x out) (same i))

@@ -21,8 +21,11 @@ sliceLimit = 16777216
 abbrev pub productLimit : ℕ  -- the product of the extents of all different labels
 productLimit = 1073741824
 
-abbrev pub axesLimit : ℕ  -- the letters of four tensors: no limit of the rules, but the room in the code's lists
-axesLimit = 4 * rankLimit
+abbrev pub lettersLimit : ℕ  -- the letters of four tensors: no limit of the rules, but the room in the code's lists of letters
+lettersLimit = 4 * rankLimit
+
+abbrev pub labelsLimit : ℕ  -- the letters of A, B and D: the room in the code's lists of labels
+labelsLimit = 3 * rankLimit
 
 abbrev pub rowsLimit : ℕ  -- rows of a tile
 rowsLimit = 64
@@ -42,8 +45,8 @@ jobLimit = 4096
 abbrev pub workRoom : ℕ  -- words of the job program's work slice
 workRoom = 16384
 
-abbrev pub fileRoom : ℕ  -- bytes that the job program reads of its file
-fileRoom = 65536
+abbrev pub fileRoom : ℕ  -- bytes that the job program reads of its file: one more than the longest that is accepted
+fileRoom = 65901
 
 abbrev pub textRoom : ℕ  -- bytes for the text that it prints
 textRoom = 65536
@@ -57,7 +60,8 @@ limits =
       base = baseLimit;
       slice = sliceLimit;
       product = productLimit;
-      axes = axesLimit;
+      letters = lettersLimit;
+      labels = labelsLimit;
       rows = rowsLimit;
       cols = colsLimit;
       depth = depthLimit;

@@ -9,7 +9,8 @@ pub struct Limits {
     pub base: u32,
     pub slice: usize,
     pub product: u64,
-    pub axes: usize,
+    pub letters: usize,
+    pub labels: usize,
     pub rows: usize,
     pub cols: usize,
     pub depth: usize,
@@ -32,8 +33,10 @@ impl Limits {
     pub const SLICE: usize = 16777216;
 
     pub const PRODUCT: u64 = 1073741824;
-    // The letters of four tensors: room for all axes, labels or letters of a contraction.
-    pub const AXES: usize = 4 * Limits::RANK;
+    // The letters of four tensors: room for all that a contraction is asked about.
+    pub const LETTERS: usize = 4 * Limits::RANK;
+    // The labels of A, B and D: room for those of a contraction that is accepted, whose C has D's letters.
+    pub const LABELS: usize = 3 * Limits::RANK;
 
     pub const ROWS: usize = 64;
 
@@ -46,9 +49,9 @@ impl Limits {
     pub const JOB: usize = 4096;
     // The words of the job program's work slice.
     pub const WORK: usize = 16384;
-    // The bytes that the job program reads of its file, and those for the text that it prints.
-    pub const FILE: usize = 65536;
-
+    // The bytes that the job program reads of its file: one more than the longest that is accepted, of four tensors with 8 letters and 4,096 words each.
+    pub const FILE: usize = 65901;
+    // The bytes for the text that it prints.
     pub const TEXT: usize = 65536;
 
     // The constants are those that the definitions name.
@@ -62,7 +65,8 @@ impl Limits {
             base: Limits::BASE,
             slice: Limits::SLICE,
             product: Limits::PRODUCT,
-            axes: Limits::AXES,
+            letters: Limits::LETTERS,
+            labels: Limits::LABELS,
             rows: Limits::ROWS,
             cols: Limits::COLS,
             depth: Limits::DEPTH,

@@ -12,6 +12,9 @@ letterA = 65
 abbrev pub letterB : ℕ
 letterB = 66
 
+abbrev pub letterC : ℕ
+letterC = 67
+
 abbrev pub letterD : ℕ
 letterD = 68
 
@@ -32,19 +35,21 @@ bytesMark t = mark 89 t
 abbrev pub goMark : ℕ
 goMark = mark 71 79
 
--- the kind that a mark tells
+-- the kind that a mark tells; C has no words of a byte each
 abbrev pub kindOf : ℕ → Kind
 kindOf m =
     cond (eqb m (layoutMark letterA)) (Kind.Layout letterA)
     (cond (eqb m (layoutMark letterB)) (Kind.Layout letterB)
+    (cond (eqb m (layoutMark letterC)) (Kind.Layout letterC)
     (cond (eqb m (layoutMark letterD)) (Kind.Layout letterD)
     (cond (eqb m (wordsMark letterA)) (Kind.Words letterA)
     (cond (eqb m (wordsMark letterB)) (Kind.Words letterB)
+    (cond (eqb m (wordsMark letterC)) (Kind.Words letterC)
     (cond (eqb m (wordsMark letterD)) (Kind.Words letterD)
     (cond (eqb m (bytesMark letterA)) (Kind.Bytes letterA)
     (cond (eqb m (bytesMark letterB)) (Kind.Bytes letterB)
     (cond (eqb m (bytesMark letterD)) (Kind.Bytes letterD)
-    (cond (eqb m goMark) Kind.Go Kind.Other)))))))))
+    (cond (eqb m goMark) Kind.Go Kind.Other)))))))))))
 
 -- is a record of this kind the layout of tensor t?
 abbrev pub isLayout : ℕ → Kind → Bool

@@ -17,9 +17,11 @@ pub fn kind_of(mark: u16) -> Kind
     match mark {
         0x414c => Kind::Layout(b'A'), // LA
         0x424c => Kind::Layout(b'B'), // LB
+        0x434c => Kind::Layout(b'C'), // LC
         0x444c => Kind::Layout(b'D'), // LD
         0x4157 => Kind::Words(b'A'), // WA
         0x4257 => Kind::Words(b'B'), // WB
+        0x4357 => Kind::Words(b'C'), // WC
         0x4457 => Kind::Words(b'D'), // WD
         0x4159 => Kind::Bytes(b'A'), // YA
         0x4259 => Kind::Bytes(b'B'), // YB

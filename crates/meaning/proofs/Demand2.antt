@@ -13,17 +13,17 @@ use Rattle.layout.specs.Layout.{axes, address}
 use Rattle.entries.specs.EntryQuestions.{hasEntries}
 use Rattle.entries.proofs.Bounds.{in-range-some}
 use Rattle.contraction.specs.declared.contraction.Contraction.{Contraction}
-use Rattle.contraction.specs.Operands.{D, tensors}
+use Rattle.contraction.specs.Operands.{C, D, tensors}
 use Rattle.questions.proofs.Ready.{AllPassed, accepted-parts}
 use Rattle.groups.specs.Groups.{depth, group, outputs, size}
 use Rattle.meaning.specs.Index.{outIndex}
-use Rattle.meaning.specs.Meaning.{Slices, shapeIn, entry, value, result}
+use Rattle.meaning.specs.Meaning.{Slices, lengthsIn, shapeIn, startOf, entry, value, result}
 use Rattle.meaning.specs.Demand2.{Demand2, ResultMeetsDemand2, EmptyLayers, EmptyLayersHold}
 use Rattle.meaning.proofs.EngineIndices.{out-in-range}
 use Rattle.meaning.proofs.Result.{length-result, term, value-counts}
 use Rattle.meaning.proofs.Values.{result-in-range, result-elsewhere}
 
-pub passed-demand2 : (c : Contraction) (w : Slices) → AllPassed (tensors c) (λ o. length (w o)) → Demand2 c w (result c w)
+pub passed-demand2 : (c : Contraction) (w : Slices) → AllPassed (tensors c) (lengthsIn c w) → Demand2 c w (result c w)
 passed-demand2 c w passed =
     record {
       addressed = result-in-range c w passed;
@@ -32,18 +32,22 @@ passed-demand2 c w passed =
     }
 
 pub result-demand2 : ResultMeetsDemand2
-result-demand2 c w e = passed-demand2 c w (accepted-parts (tensors c) (λ o. length (w o)) e)
+result-demand2 c w e = passed-demand2 c w (accepted-parts (tensors c) (lengthsIn c w) e)
 
 -- ---- layers with nothing in them
 
-module _ (c : Contraction) (w : Slices) (p : AllPassed (tensors c) (λ o. length (w o))) where
-  no-sum : size (group (shapeIn c) depth) ≡ 0 → (ρ : ℕ → ℕ) → value c w ρ ≡ word 32 (c .beta * getD (w D) (address (tensors c D) ρ) 0)
-  unfolding sumTo entry
+module _ (c : Contraction) (w : Slices) (p : AllPassed (tensors c) (lengthsIn c w)) where
+  -- what a sum starts from
+  abbrev start : (ℕ → ℕ) → ℕ
+  start ρ = startOf (c .named) (entry c w C ρ) (entry c w D ρ)
+
+  no-sum : size (group (shapeIn c) depth) ≡ 0 → (ρ : ℕ → ℕ) → value c w ρ ≡ word 32 (c .beta * start ρ)
+  unfolding sumTo
   no-sum e ρ =
       value-counts c w ρ
-      ∙ ap (λ (n : ℕ). word 32 (c .alpha * sumTo n (term c w ρ) + c .beta * getD (w D) (address (tensors c D) ρ) 0)) e
-      ∙ ap (λ (x : ℕ). word 32 (x + c .beta * getD (w D) (address (tensors c D) ρ) 0)) (mul-zero (c .alpha))
-      ∙ ap (word 32) (zero-add (c .beta * getD (w D) (address (tensors c D) ρ) 0))
+      ∙ ap (λ (n : ℕ). word 32 (c .alpha * sumTo n (term c w ρ) + c .beta * start ρ)) e
+      ∙ ap (λ (x : ℕ). word 32 (x + c .beta * start ρ)) (mul-zero (c .alpha))
+      ∙ ap (word 32) (zero-add (c .beta * start ρ))
 
   no-count : hasEntries (axes (tensors c D)) ≡ false → size (outputs (shapeIn c)) ≡ 0
   no-count e = go (size (outputs (shapeIn c))) refl
@@ -63,4 +67,4 @@ module _ (c : Contraction) (w : Slices) (p : AllPassed (tensors c) (λ o. length
   passed-empty = record { no-terms = λ e ρ h. result-in-range c w p ρ h ∙ no-sum e ρ; no-outputs = unchanged }
 
 pub empty-layers : EmptyLayersHold
-empty-layers c w e = passed-empty c w (accepted-parts (tensors c) (λ o. length (w o)) e)
+empty-layers c w e = passed-empty c w (accepted-parts (tensors c) (lengthsIn c w) e)

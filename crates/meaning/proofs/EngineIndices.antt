@@ -37,7 +37,7 @@ module _ (s : Shape) where
   pub out-separate : (m : ℕ) → Separate (outputAt m ∷ [])
   out-separate m = (λ c e. tt, tt)
 
-  pub out-covers : (m c : ℕ) → member c (letters s D) ≡ true → covered c (outputAt m ∷ []) ≡ true
+  pub out-covers : (m c : ℕ) → inD s c ≡ true → covered c (outputAt m ∷ []) ≡ true
   out-covers m c e = rw e
 
   pub out-labels : Splits s D (λ (u : Unit {0}). inD s) (tt ∷ [])

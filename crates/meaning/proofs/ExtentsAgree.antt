@@ -13,7 +13,7 @@ use Rattle.layout.specs.declared.layout.Axis.{Axis}
 use Rattle.layout.specs.Layout.{lettersOf}
 use Rattle.labels.specs.Labels.{extentOf}
 use Rattle.points.specs.LabelQuestions.{extentsAgree}
-use Rattle.contraction.specs.Operands.{Operand, A, B, D, Shape, together}
+use Rattle.contraction.specs.Operands.{Operand, A, B, C, D, Shape, together}
 use Rattle.groups.specs.Groups.{letters}
 
 -- where each axis has the extent that e gives its letter, so does each letter's first
@@ -35,13 +35,17 @@ pub together-all : (P : Axis → Type 0) (s : Shape) → All P (together s) → 
 unfolding together
 together-all P s h = each
   where
-    rest : All P (s A) × All P (s B)
-    rest = all-split P (s A) (s B) (all-split P (s D) (s A ++ s B) h .1)
+    abc : All P (s A ++ (s B ++ s C))
+    abc = all-split P (s D) (s A ++ (s B ++ s C)) h .1
+
+    bc : All P (s B) × All P (s C)
+    bc = all-split P (s B) (s C) (all-split P (s A) (s B ++ s C) abc .1)
 
     each : (o : Operand) → All P (s o)
-    each A = rest .0
-    each B = rest .1
-    each D = all-split P (s D) (s A ++ s B) h .0
+    each A = all-split P (s A) (s B ++ s C) abc .0
+    each B = bc .0
+    each C = bc .1
+    each D = all-split P (s D) (s A ++ (s B ++ s C)) h .0
 
 module _ (s : Shape) (same : T (extentsAgree (together s))) where
   pub agree : (o : Operand) (c : ℕ) → member c (letters s o) ≡ true → extentOf c (s o) ≡ extentOf c (together s)

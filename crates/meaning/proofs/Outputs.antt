@@ -6,7 +6,7 @@ use Prim.Native.Nat.{ℕ}
 use Rattle.words.specs.Lists.{member}
 use Rattle.contraction.specs.Operands.{D, Shape}
 use Rattle.groups.specs.Groups.{letters, depth, groupOf, inGroup}
-use Rattle.meaning.proofs.OwnGroups.{lacks}
+use Rattle.meaning.proofs.OwnGroups.{of-d, lacks}
 
 module _ (s : Shape) where
   -- is it a letter of D?
@@ -15,7 +15,7 @@ module _ (s : Shape) where
 
   -- D's letters are of the other groups, and all other letters of the depth group
   pub not-depth : (c : ℕ) → inD c ≡ true → inGroup s depth c ≡ false
-  not-depth = lacks s D depth refl
+  not-depth = lacks s D (of-d s) depth refl
 
   pub is-depth : (c : ℕ) → inD c ≡ false → groupOf s c ≡ depth
   unfolding groupOf

@@ -1,4 +1,4 @@
--- The groups of a tensor's labels: A has no column label, B no row label and D no depth label. So an index at counts of a tensor's own groups gives each of
+-- The groups of a tensor's labels: A has no column label, B no row label and D no depth label, nor has C, whose letters are D's. So an index at counts of a tensor's own groups gives each of
 -- its letters the value that counts of all four groups give it, and its address is the same.
 -- Assumes nothing.
 use mathlib.Core.Path.{_≡_, refl, sym, ap, _∙_}
@@ -9,11 +9,13 @@ use Prim.Native.Nat.{ℕ}
 use native.Mathlib.Omega.{arith}
 use lib.Dec.{eqb}
 use Rattle.words.specs.Lists.{cons-if, keep, member}
-use Rattle.words.proofs.Lists.{all-imp, covers, eqb-true, eqb-ne}
+use Rattle.words.proofs.Lists.{T-true, all-imp, all-map, all-member, covers, eqb-true, eqb-ne}
+use Rattle.words.proofs.Sums.{and-split, every-all}
 use Rattle.layout.specs.declared.layout.Layout.{Layout}
 use Rattle.layout.specs.Layout.{axes, address}
 use Rattle.layout.proofs.Address.{address-agree}
-use Rattle.contraction.specs.Operands.{Operand, A, B, D, Shape, shape}
+use Rattle.points.specs.LabelQuestions.{lettersAmong, lettersSame}
+use Rattle.contraction.specs.Operands.{Operand, A, B, C, D, Shape, shape}
 use Rattle.groups.specs.Groups.{letters, Group, batch, row, column, depth, groupBy, groupOf, groupNumber, inGroup, labelsWhere}
 use Rattle.meaning.proofs.CountAddress.{at-agrees, where-clear}
 use Rattle.meaning.proofs.IndexParts.{Part, Separate, covered, partsAt, kept-separate, atParts}
@@ -29,6 +31,7 @@ groupCounts h i j k depth = k
 abbrev lacking : Operand → Group
 lacking A = column
 lacking B = row
+lacking C = depth
 lacking D = depth
 
 -- can the tensor have labels of the group?
@@ -44,37 +47,55 @@ groupsOf o = keep (has o) allGroups
 
 -- ---- which group a letter is of
 
--- the group of a label that the tensor has, by whether the other two have it
-abbrev groupWith : Operand → Bool → Bool → Group
-groupWith A b d = groupBy true b d
-groupWith B a d = groupBy a true d
-groupWith D a b = groupBy a b true
+-- A's label is never a column label, B's no row label and D's no depth label
+own-a : (b d : Bool) → has A (groupBy true b d) ≡ true
+own-a b false = refl
+own-a true true = refl
+own-a false true = refl
 
-own-with : (o : Operand) (x y : Bool) → has o (groupWith o x y) ≡ true
-own-with A x false = refl
-own-with A true true = refl
-own-with A false true = refl
-own-with B x false = refl
-own-with B true true = refl
-own-with B false true = refl
-own-with D x false = refl
-own-with D true true = refl
-own-with D false true = refl
+own-b : (a d : Bool) → has B (groupBy a true d) ≡ true
+own-b a false = refl
+own-b true true = refl
+own-b false true = refl
+
+own-d : (a b : Bool) → has D (groupBy a b true) ≡ true
+own-d true true = refl
+own-d false true = refl
+own-d a false = refl
 
 module _ (s : Shape) where
-  -- a letter of a tensor is of one of its groups
-  pub own-group : (o : Operand) (c : ℕ) → member c (letters s o) ≡ true → has o (groupOf s c) ≡ true
+  -- a letter of the tensor is of one of its groups
+  pub record OwnGroup (o : Operand) : Type 0 where
+    pub each : (c : ℕ) → member c (letters s o) ≡ true → has o (groupOf s c) ≡ true
+
+  pub of-d : OwnGroup D
   unfolding groupOf
-  own-group A c e = rw e (own-with A (member c (letters s B)) (member c (letters s D)))
-  own-group B c e = rw e (own-with B (member c (letters s A)) (member c (letters s D)))
-  own-group D c e = rw e (own-with D (member c (letters s A)) (member c (letters s B)))
+  of-d = record { each = λ c e. rw e (own-d (member c (letters s A)) (member c (letters s B))) }
+
+  -- where question 30 passes, C's letters are D's
+  module _ (same : lettersSame (s C) (s D) ≡ true) where
+    pub c-in-d : (c : ℕ) → member c (letters s C) ≡ true → member c (letters s D) ≡ true
+    unfolding lettersSame
+    c-in-d c =
+        all-member (λ c. member c (letters s D) ≡ true) c (letters s C)
+        (all-map (λ c. member c (letters s D) ≡ true) (λ a. a .letter) (s C)
+        (all-imp (λ a. T-true (member (a .letter) (letters s D))) (s C)
+        (every-all (λ a. member (a .letter) (letters s D)) (s C) (and-split (lettersAmong (s C) (s D)) (lettersAmong (s D) (s C)) (rw same tt) .0))))
+
+    -- so that each tensor's letters are of its groups
+    pub own-group : (o : Operand) → OwnGroup o
+    unfolding groupOf
+    own-group A = record { each = λ c e. rw e (own-a (member c (letters s B)) (member c (letters s D))) }
+    own-group B = record { each = λ c e. rw e (own-b (member c (letters s A)) (member c (letters s D))) }
+    own-group C = record { each = λ c e. of-d .each c (c-in-d c e) }
+    own-group D = of-d
 
   -- and of no group that it lacks
-  pub lacks : (o : Operand) (g : Group) → has o g ≡ false → (c : ℕ) → member c (letters s o) ≡ true → inGroup s g c ≡ false
+  pub lacks : (o : Operand) → OwnGroup o → (g : Group) → has o g ≡ false → (c : ℕ) → member c (letters s o) ≡ true → inGroup s g c ≡ false
   unfolding inGroup
-  lacks o g n c e =
+  lacks o own g n c e =
       eqb-ne (groupNumber (groupOf s c)) (groupNumber g)
-      (λ q. true≢false (sym (own-group o c e) ∙ ap (λ (x : ℕ). not (eqb x (groupNumber (lacking o)))) q ∙ n))
+      (λ q. true≢false (sym (own .each c e) ∙ ap (λ (x : ℕ). not (eqb x (groupNumber (lacking o)))) q ∙ n))
 
   -- a letter of one group is in no other
   other : (g h : Group) → groupNumber g ≢ groupNumber h → (c : ℕ) → inGroup s g c ≡ true → inGroup s h c ≡ false
@@ -111,7 +132,7 @@ module _ (s : Shape) where
       pub own-separate : Separate (groupsAt (groupsOf o))
       own-separate = kept-separate (inGroup s) n (has o) allGroups all-separate
 
-      module _ (c : ℕ) (e : member c (letters s o) ≡ true) where
+      module _ (own : OwnGroup o) (c : ℕ) (e : member c (letters s o) ≡ true) where
         kept-covers : (gs : List Group) → covered c (groupsAt (keep (has o) gs)) ≡ covered c (groupsAt gs)
         kept-covers [] = refl
         kept-covers (g ∷ gs) = go (has o g) refl (kept-covers gs)
@@ -119,7 +140,7 @@ module _ (s : Shape) where
             go : (b : Bool) → has o g ≡ b → covered c (groupsAt (keep (has o) gs)) ≡ covered c (groupsAt gs)
                 → covered c (groupsAt (cons-if b g (keep (has o) gs))) ≡ (inGroup s g c || covered c (groupsAt gs))
             go true k r = ap (λ (x : Bool). inGroup s g c || x) r
-            go false k r = rw (lacks o g k c e) r
+            go false k r = rw (lacks o own g k c e) r
 
         -- its groups cover its letters
         pub own-cover : covered c (groupsAt (groupsOf o)) ≡ true
@@ -133,9 +154,9 @@ module _ (s : Shape) where
             go : (b : Bool) → has o g ≡ b → atParts s (groupsAt gs) c ≡ atParts s (groupsAt (keep (has o) gs)) c
                 → atParts s (groupsAt (g ∷ gs)) c ≡ atParts s (groupsAt (cons-if b g (keep (has o) gs))) c
             go true k r = at-agrees (labelsWhere s (inGroup s g)) (n g) _ _ c r
-            go false k r = where-clear s (inGroup s g) (n g) _ c (lacks o g k c e) ∙ r
+            go false k r = where-clear s (inGroup s g) (n g) _ c (lacks o own g k c e) ∙ r
 
 -- a tensor's address at counts of all groups is that at the counts of its own
-pub address-own : (t : Operand → Layout) (n : Group → ℕ) (o : Operand)
+pub address-own : (t : Operand → Layout) (n : Group → ℕ) (o : Operand) → OwnGroup (shape t) o
     → address (t o) (atParts (shape t) (groupsAt (shape t) n allGroups)) ≡ address (t o) (atParts (shape t) (groupsAt (shape t) n (groupsOf o)))
-address-own t n o = address-agree (t o) _ _ (all-imp (λ a e. kept-at (shape t) n o (a .letter) e allGroups) (axes (t o)) (covers (λ a. a .letter) (axes (t o))))
+address-own t n o own = address-agree (t o) _ _ (all-imp (λ a e. kept-at (shape t) n o own (a .letter) e allGroups) (axes (t o)) (covers (λ a. a .letter) (axes (t o))))

@@ -20,10 +20,10 @@ use Rattle.entries.specs.Bounds.{InRange, Inside}
 use Rattle.entries.proofs.Bounds.{inside-every}
 use Rattle.entries.proofs.StridesApart.{apart-injective}
 use Rattle.contraction.specs.declared.contraction.Contraction.{Contraction}
-use Rattle.contraction.specs.Operands.{Operand, A, B, D, tensors, shape, together}
+use Rattle.contraction.specs.Operands.{Operand, A, B, C, D, tensors, shape, together}
 use Rattle.groups.specs.Groups.{letters, depth, group, outputs, size}
 use Rattle.meaning.specs.Index.{at, outIndex}
-use Rattle.meaning.specs.Meaning.{Slices, shapeIn, entry, value, result}
+use Rattle.meaning.specs.Meaning.{Slices, shapeIn, startOf, entry, value, result}
 use Rattle.meaning.proofs.CountAddress.{group-distinct}
 use Rattle.meaning.proofs.Nested.{sumOver-is-sumTo}
 use Rattle.meaning.proofs.IndexParts.{Below, partsAt, Splits, atParts, parts-in-range, parts-injective}
@@ -91,6 +91,6 @@ module _ (c : Contraction) (w : Slices) where
   term ρ k = entry c w A (at (group (shapeIn c) depth) k ρ) * entry c w B (at (group (shapeIn c) depth) k ρ)
 
   -- the sum of a value runs over the counts of the depth group
-  pub value-counts : (ρ : ℕ → ℕ) → value c w ρ ≡ word 32 (c .alpha * sumTo (size (group (shapeIn c) depth)) (term ρ) + c .beta * entry c w D ρ)
+  pub value-counts : (ρ : ℕ → ℕ) → value c w ρ ≡ word 32 (c .alpha * sumTo (size (group (shapeIn c) depth)) (term ρ) + c .beta * startOf (c .named) (entry c w C ρ) (entry c w D ρ))
   unfolding value
   value-counts ρ = rw (sumOver-is-sumTo (group (shapeIn c) depth) (λ σ. entry c w A σ * entry c w B σ) ρ (group-distinct (shapeIn c) depth))

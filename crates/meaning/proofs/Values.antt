@@ -13,18 +13,19 @@ use Rattle.words.proofs.Sums.{sumTo-ext}
 use Rattle.layout.specs.Layout.{axes, address}
 use Rattle.layout.proofs.Address.{address-agree}
 use Rattle.labels.specs.Labels.{labels}
-use Rattle.points.specs.LabelQuestions.{extentsAgree}
+use Rattle.points.specs.LabelQuestions.{extentsAgree, lettersSame}
 use Rattle.entries.specs.EntryQuestions.{inside, apart}
 use Rattle.entries.specs.Bounds.{InRange}
 use Rattle.entries.proofs.Bounds.{inside-every}
 use Rattle.entries.proofs.StridesApart.{apart-injective}
 use Rattle.contraction.specs.declared.contraction.Contraction.{Contraction}
-use Rattle.contraction.specs.Operands.{Operand, A, B, D, Shape, tensors, together}
+use Rattle.contraction.specs.Operands.{Operand, A, B, C, D, Shape, tensors, together}
 use Rattle.questions.proofs.Ready.{AllPassed}
 use Rattle.groups.specs.Groups.{letters, depth, group, size}
 use Rattle.meaning.specs.Index.{at, outIndex}
-use Rattle.meaning.specs.Meaning.{Slices, shapeIn, entry, value, result}
+use Rattle.meaning.specs.Meaning.{Slices, lengthsIn, shapeIn, entry, value, result}
 use Rattle.meaning.proofs.Index.{letter-in, group-same}
+use Rattle.meaning.proofs.OwnGroups.{c-in-d}
 use Rattle.meaning.proofs.Outputs.{is-depth, not-depth}
 use Rattle.meaning.proofs.EngineIndices.{out-in-range}
 use Rattle.meaning.proofs.CountAddress.{clear}
@@ -35,7 +36,7 @@ use Rattle.meaning.proofs.Result.{result-at, result-other, term, value-
 pub record Agree (s : Shape) (ρ σ : ℕ → ℕ) : Type 0 where
   pub each : (c : ℕ) → member c (letters s D) ≡ true → ρ c ≡ σ c
 
-module _ (c : Contraction) (w : Slices) (ρ σ : ℕ → ℕ) (same : Agree (shapeIn c) ρ σ) where
+module _ (c : Contraction) (w : Slices) (alike : lettersSame (axes (tensors c C)) (axes (tensors c D)) ≡ true) (ρ σ : ℕ → ℕ) (same : Agree (shapeIn c) ρ σ) where
   -- with a depth count they agree on every tensor's letters
   term-agrees : (k : ℕ) (o : Operand) (x : ℕ) → member x (letters (shapeIn c) o) ≡ true → at (group (shapeIn c) depth) k ρ x ≡ at (group (shapeIn c) depth) k σ x
   term-agrees k o x m = go (member x (letters (shapeIn c) D)) refl
@@ -55,9 +56,11 @@ module _ (c : Contraction) (w : Slices) (ρ σ : ℕ → ℕ) (same : Agree (sha
       sumTo-ext {f = term c w ρ} {g = term c w σ} (size (group (shapeIn c) depth)) (λ k i. rw (entry-agrees A _ _ (term-agrees k A), entry-agrees B _ _ (term-agrees k B)))
 
   pub value-agrees : value c w ρ ≡ value c w σ
-  value-agrees = value-counts c w ρ ∙ rw (sum-agrees, entry-agrees D ρ σ (same .each)) (sym (value-counts c w σ))
+  value-agrees =
+      value-counts c w ρ
+      ∙ rw (sum-agrees, entry-agrees D ρ σ (same .each), entry-agrees C ρ σ (λ x m. same .each x (c-in-d (shapeIn c) alike x m))) (sym (value-counts c w σ))
 
-module _ (c : Contraction) (w : Slices) (p : AllPassed (tensors c) (λ o. length (w o))) where
+module _ (c : Contraction) (w : Slices) (p : AllPassed (tensors c) (lengthsIn c w)) where
   -- each word that D's layout addresses holds the value at its index
   pub result-in-range : (ρ : ℕ → ℕ) → InRange (axes (tensors c D)) ρ → getD (result c w) (address (tensors c D) ρ) 0 ≡ value c w ρ
   unfolding labels
@@ -71,7 +74,7 @@ module _ (c : Contraction) (w : Slices) (p : AllPassed (tensors c) (λ o. length
       let k = out-in-range s equal (m .0) (m .1) in
       let agrees = apart-injective (t D) spread (length (w D)) (outIndex s (m .0)) ρ k h (inside-every (t D) (length (w D)) fits _ k) (inside-every (t D) (length (w D)) fits ρ h) (m .2) in
       ap (λ (x : ℕ). getD (result c w) x 0) (sym (m .2)) ∙ result-at c w equal fits spread (m .0) (m .1)
-      ∙ value-agrees c w (outIndex s (m .0)) ρ
+      ∙ value-agrees c w (p .same) (outIndex s (m .0)) ρ
       (record { each = λ x e. all-member (λ x. outIndex s (m .0) x ≡ ρ x) x (labels (axes (t D))) agrees (member-distinct x (letters s D) e) })
 
   -- every other word has its old value

@@ -11,9 +11,9 @@ use Rattle.layout.specs.Layout.{axes, address}
 use Rattle.entries.specs.EntryQuestions.{hasEntries}
 use Rattle.entries.specs.Bounds.{InRange}
 use Rattle.contraction.specs.declared.contraction.Contraction.{Contraction}
-use Rattle.contraction.specs.Operands.{D, tensors}
+use Rattle.contraction.specs.Operands.{C, D, tensors}
 use Rattle.groups.specs.Groups.{depth, group, size}
-use Rattle.meaning.specs.Meaning.{Slices, shapeIn, firstNo, value, result}
+use Rattle.meaning.specs.Meaning.{Slices, shapeIn, firstNo, startOf, entry, value, result}
 
 -- of D's words afterwards: each word that D's layout addresses is the value at its index, every other word has its old value
 pub record Demand2 (c : Contraction) (w : Slices) (after : List ℕ) : Type 0 where
@@ -27,9 +27,9 @@ ResultMeetsDemand2 = (c : Contraction) (w : Slices) → firstNo c w ≡ 0 → De
 
 -- layers with nothing in them
 pub record EmptyLayers (c : Contraction) (w : Slices) : Type 0 where
-  -- "A sum over no values is 0, so D's word becomes beta × old": with depth size 0, every word that D's layout addresses
+  -- "A sum over no values is 0, so D's word becomes beta × old", or beta × C's entry: with depth size 0, every word that D's layout addresses
   pub no-terms : size (group (shapeIn c) depth) ≡ 0 → (ρ : ℕ → ℕ) → InRange (axes (tensors c D)) ρ
-      → getD (result c w) (address (tensors c D) ρ) 0 ≡ word 32 (c .beta * getD (w D) (address (tensors c D) ρ) 0)
+      → getD (result c w) (address (tensors c D) ρ) 0 ≡ word 32 (c .beta * startOf (c .named) (entry c w C ρ) (entry c w D ρ))
   -- "A tensor with an extent 0 has no entries": where D is such a tensor, no word changes
   pub no-outputs : hasEntries (axes (tensors c D)) ≡ false → result c w ≡ w D
 

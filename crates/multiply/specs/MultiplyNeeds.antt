@@ -1,16 +1,11 @@
 -- What the code that multiplies may assume of blocks and slices. Inside contracts only.
 -- Assumes nothing.
-use Prim.Native.Nat.{ℕ, _+_, _<_, _*_, _≤_}
+use Prim.Native.Nat.{ℕ, _+_, _*_, _≤_}
 use mathlib.Core.List.{List}
-use Rattle.words.specs.Loops.{each, Within}
 use Rattle.limits.specs.Limits.{depthLimit}
 use Rattle.block.specs.Block.{Step}
-use Rattle.block.specs.Places.{placeOf, InLane}
+use Rattle.block.specs.Places.{PlacesIn, InLane}
 use Rattle.multiply.specs.declared.multiply.Packing.{Packing}
-
--- from each of the first n places of another block, each place of a block is one of a slice of `size` words
-pub record PlacesIn (from : ℕ) (outer : List ℕ) (n : ℕ) (offsets : List ℕ) (count size : ℕ) : Type 0 where
-  pub each : (c : ℕ) → c < n → Within count (placeOf (placeOf from outer c) offsets) size
 
 -- a packed tile with m rows and n columns in use can be multiplied: read from a slice of `work` words, added to one of `d` words
 pub record Multipliable (from : ℕ) (rows : List ℕ) (m : ℕ) (row-step : Step) (columns : List ℕ) (n : ℕ) (step : Step) (p : Packing) (d work : ℕ) : Type 0 where

@@ -3,3 +3,4 @@
 pub mod plain_call;
 pub mod state_call;
 pub mod tile_call;
+pub mod with_c;

@@ -24,6 +24,7 @@ pub extern "C" fn nezgrak_contract(
         (flatContraction (now («a_layout» .entry)) (now («b_layout» .entry)) (now («d_layout» .entry)) alpha beta)
         (three (now (a .entry)) (now (b .entry)) (now (d .entry)))) ⌝ }
 {
-    let c = contraction_of(a_layout, b_layout, d_layout, alpha, beta);
-    status_of(contract(c, a, b, d))
+    // C is not named: what stands in its place is not read.
+    let k = contraction_of(a_layout, b_layout, d_layout, alpha, beta);
+    status_of(contract(k, a, b, a, d))
 }

@@ -37,9 +37,10 @@ pub extern "C" fn nezgrak_state(
         (three (now (a .entry)) (now (b .entry)) (now (d .entry)))
         done batch row column) ⌝ }
 {
-    let c = contraction_of(a_layout, b_layout, d_layout, alpha, beta);
+    // C is not named: what stands in its place is not read.
+    let k = contraction_of(a_layout, b_layout, d_layout, alpha, beta);
     let z = Sizes { rows, cols, depth };
-    let found = state_of(c, z, a, b, d, done, batch, row, column);
+    let found = state_of(k, z, a, b, a, d, done, batch, row, column);
     *state = state_after(found, *state);
     status_of(found)
 }

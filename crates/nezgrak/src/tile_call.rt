@@ -37,9 +37,10 @@ pub extern "C" fn nezgrak_run_tiles(
         (three (now (a .entry)) (now (b .entry)) (now (d .entry)))
         (now (work .entry)) done budget) ⌝ }
 {
-    let c = contraction_of(a_layout, b_layout, d_layout, alpha, beta);
+    // C is not named: what stands in its place is not read.
+    let k = contraction_of(a_layout, b_layout, d_layout, alpha, beta);
     let z = Sizes { rows, cols, depth };
-    let outcome = run(c, z, a, b, d, work, done, budget);
+    let outcome = run(k, z, a, b, a, d, work, done, budget);
     *done_after = done_of(outcome);
     *complete = complete_of(outcome);
     status_of(outcome)

@@ -1,9 +1,9 @@
 -- Runs of a group's first label: along a run a count's offset grows by the label's weight.
 -- Assumes nothing.
-use mathlib.Core.Path.{_≡_, ap, sym, _∙_}
+use mathlib.Core.Path.{_≡_, refl, ap, sym, _∙_}
 use mathlib.Core.List.{List, [], _∷_}
 use Prim.Native.Nat.{ℕ, _+_, _*_, _/_, _%_, _<_}
-use native.Mathlib.Nat.{div-add-mod, mul-mod-right, mul-div-right}
+use native.Mathlib.Nat.{div-add-mod, mul-mod-right, mul-div-right, mul-zero, zero-add, zero-mod, zero-div}
 use native.Mathlib.Omega.{arith}
 use Rattle.groups.specs.Groups.{Label, size}
 use Rattle.offsets.specs.Counts.{offset}
@@ -21,6 +21,16 @@ offset-run f [] e m v z q h = rw z (omega arith)
 offset-run f (l ∷ g) e m v z q h =
     let p : 0 < e = omega arith in
     rw (← q, lowest e m h, rest e m h, mul-mod-right e m, mul-div-right m p) (omega arith)
+
+-- the count 0 goes nowhere, and along the first run each count is a step
+pub offset-none : (f : Label → ℕ) (g : List Label) → offset f g 0 ≡ 0
+offset-none f [] = refl
+offset-none f (l ∷ g) = rw (zero-mod, zero-div, offset-none f g) (omega arith)
+
+pub offset-first : (f : Label → ℕ) (g : List Label) (e v : ℕ) → f (firstLabel []) ≡ 0 → e ≡ firstLabel g .extent → v < e → offset f g v ≡ v * f (firstLabel g)
+offset-first f g e v z q h =
+    let r = offset-run f g e 0 v z q h in
+    rw (mul-zero, zero-add, offset-none f g, zero-add) at r
 
 -- the next count of a run: its lowest digit is one more, and its offset grows by the first label's weight
 module _ (e n : ℕ) (h : n % e + 1 < e) where

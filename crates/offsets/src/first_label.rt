@@ -1,5 +1,5 @@
 ghost use Prim.Native.Nat.{_≤_};
-ghost use Rattle.limits.specs.Limits.{axesLimit};
+ghost use Rattle.limits.specs.Limits.{labelsLimit};
 ghost use Rattle.groups.specs.Held.{labelsIn};
 ghost use Rattle.offsets.specs.FirstLabel.{FirstLabelOf};
 use super::offsets::Offsets;
@@ -13,7 +13,7 @@ pub struct FirstLabel {
 
 impl FirstLabel {
     pub fn of(g: Group) -> FirstLabel
-        requires { ⌜ g .count ≤ axesLimit ⌝ }
+        requires { ⌜ g .count ≤ labelsLimit ⌝ }
         ensures { λ r. ⌜ FirstLabelOf (labelsIn g) r ⌝ }
     {
         if g.count == 0 {

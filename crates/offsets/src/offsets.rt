@@ -1,12 +1,12 @@
 ghost use mathlib.Core.Path.{_≡_};
 ghost use Prim.Native.Nat.{_+_, _*_, _<_, _≤_};
 ghost use Rattle.words.specs.Words.{word, wordOf, signed};
-ghost use Rattle.limits.specs.Limits.{axesLimit};
+ghost use Rattle.limits.specs.Limits.{labelsLimit};
 ghost use Rattle.contraction.specs.TensorPlaces.{tensorCount, operandAt};
 ghost use Rattle.groups.specs.Groups.{size};
 ghost use Rattle.groups.specs.Held.{asLabel, labelsIn};
 ghost use Rattle.offsets.specs.Counts.{offsetIn};
-ghost use Rattle.offsets.specs.Offsets.{wordsIn, Words};
+ghost use Rattle.offsets.specs.Offsets.{wordsIn, Words, MovedAlong};
 use contraction::contraction::Contraction;
 use groups::groups::Dim;
 use groups::groups::Group;
@@ -25,7 +25,7 @@ fn moved(value: u32, stride: u64) -> u64
 
 // The offset of a count of a group in one tensor, the first label running fastest.
 pub fn offset_in(g: Group, o: usize, n: u32) -> u64
-    requires { ⌜ (g .count ≤ axesLimit) × (o < tensorCount) × (n < size (labelsIn g)) ⌝ }
+    requires { ⌜ (g .count ≤ labelsLimit) × (o < tensorCount) × (n < size (labelsIn g)) ⌝ }
     ensures { λ r. ⌜ r ≡ word 64 (offsetIn (wordOf 64) (operandAt o) (labelsIn g) n) ⌝ }
 {
     let count = g.count;
@@ -79,7 +79,7 @@ impl Offsets {
 
     // The offsets of a count of a group, the first label running fastest.
     pub fn of(g: Group, n: u32) -> Offsets
-        requires { ⌜ (g .count ≤ axesLimit) × (n < size (labelsIn g)) ⌝ }
+        requires { ⌜ (g .count ≤ labelsLimit) × (n < size (labelsIn g)) ⌝ }
         ensures { λ r. ⌜ Words r (λ o. offsetIn (wordOf 64) o (labelsIn g) n) ⌝ }
     {
         let count = g.count;
@@ -94,5 +94,22 @@ impl Offsets {
             i += 1;
         }
         at
+    }
+}
+
+// The words of A and of B, the two tensors that a sum reads.
+pub struct SumOffsets {
+    pub a: u64,
+    pub b: u64,
+}
+
+impl SumOffsets {
+    // Moved by a value of a label.
+    pub fn along(self, l: Dim, value: u32) -> SumOffsets
+        ensures { λ r. ⌜ MovedAlong self (asLabel l) value r ⌝ }
+    {
+        let a = std::num::wrapping_add_u64(self.a, moved(value, l.strides[Contraction::A]));
+        let b = std::num::wrapping_add_u64(self.b, moved(value, l.strides[Contraction::B]));
+        SumOffsets { a, b }
     }
 }

@@ -2,9 +2,10 @@
 -- tile's counts. So what is packed is the tile's blocks, and the sums that the kernel makes of them are the panel's, which go to the tile's places.
 -- Assumes nothing.
 use mathlib.Core.Path.{_≡_, ap, sym, _∙_}
-use mathlib.Core.Bool.{Bool, cond}
-use mathlib.Core.List.{List}
+use mathlib.Core.Bool.{Bool, false, cond}
+use mathlib.Core.List.{List, []}
 use Prim.Native.Nat.{ℕ, _+_, _*_, _<_, _≤_}
+use native.Mathlib.Nat.{le-trans}
 use native.Mathlib.Omega.{arith}
 use lib.Dec.{eqb}
 use lib.ListN.{getD, set}
@@ -17,13 +18,13 @@ use Rattle.words.proofs.Sums.{sumTo-ext}
 use Rattle.words.specs.Fronts.{front}
 use Rattle.words.proofs.Fronts.{front-ext}
 use Rattle.limits.specs.Limits.{blockLimit}
-use Rattle.contraction.specs.Operands.{Operand, D}
+use Rattle.contraction.specs.Operands.{Operand, C, D}
 use Rattle.groups.specs.Groups.{depth}
 use Rattle.groups.specs.Held.{labelsIn}
 use Rattle.plan.specs.declared.plan.Plan.{Plan}
 use Rattle.plan.specs.Plan.{planned}
 use Rattle.block.specs.declared.block.Block.{Block}
-use Rattle.block.specs.Places.{placeOf, asStep, InLane}
+use Rattle.block.specs.Places.{placeOf, asStep, InLane, PlacesIn}
 use Rattle.scatter.specs.ScatterVectors.{Blocked}
 use Rattle.pack.specs.PackNeeds.{Packable}
 use Rattle.pack.specs.Packed.{packedWord}
@@ -31,6 +32,8 @@ use Rattle.pack.proofs.Packing.{packed-ext}
 use Rattle.kernel.specs.Kernel.{columnSum}
 use Rattle.store.specs.declared.store.Factors.{Factors}
 use Rattle.store.specs.Added.{addedTo}
+use Rattle.copy.specs.Copied.{columnCopied}
+use Rattle.copy.specs.CopyNeeds.{Copyable}
 use Rattle.multiply.specs.declared.multiply.Packing.{Packing}
 use Rattle.multiply.specs.MultiplyNeeds.{Multipliable}
 use Rattle.multiply.specs.Stored.{tileSum}
@@ -41,9 +44,9 @@ use Rattle.tiles.specs.Setting.{Setting, panelSum, addPanel, visit}
 use Rattle.tiles.specs.TileWalk.{tileAt}
 use Rattle.tiles.proofs.Cuts.{width-le, place-in, panel-width}
 use Rattle.tile_blocks.specs.Side.{Side, left, right, tensorOn, groupOn, sizeOn, tileOn}
-use Rattle.tile_blocks.specs.Planned.{atBatch, placeIn, placeD, planSetting}
+use Rattle.tile_blocks.specs.Planned.{atBatch, placeIn, placeOut, planSetting}
 use Rattle.tile_blocks.specs.TilePlaces.{blockIn, Begins, Starts}
-use Rattle.phases.specs.Phases.{packs, sideWidth, panelWidth, SideClear, packedSide, OutputClear, PackedIn}
+use Rattle.phases.specs.Phases.{packs, sideWidth, panelWidth, SideClear, packedSide, OutputClear, fromC, PackedIn}
 
 -- the code's block of a side's counts in a tensor
 abbrev SideBlock : Plan → Cut → Tile → Operand → Side → Block → Type 0
@@ -99,15 +102,51 @@ module _ (p : Plan) (G : Cut) (x : Tile) where
         ∙ front-ext (tileOn G s * G .depth) out
         (λ y h. packed-ext (tileOn G s) (b .count) filled (λ l k h m. ap (λ (z : ℕ). getD src z 0) (place-at l k h m)) y ∙ rw (r .used, f))
 
+  -- ---- a tile of an output tensor
+  module _ (o : Operand) {rows cols : Block} (r : SideBlock p G x o left rows) (c : SideBlock p G x o right cols) {from : ℕ} (e : from ≡ atBatch p (x .batch) o) where
+    place-out : (i j : ℕ) → i < rows .count → j < cols .count
+        → placeOf (placeOf from (cols .offsets) j) (rows .offsets) i ≡ placeOut p o (x .batch) (x .row * G .rows + i) (x .column * G .cols + j)
+    unfolding placeOut
+    place-out i j h l = rw (e, c .offsets j (rw (c .used) at l), r .offsets i (rw (r .used) at h))
+
+    places-in : {n : ℕ} → Begins G x → OutputClear p G o n → PlacesIn from (cols .offsets) (cols .count) (rows .offsets) (rows .count) n
+    places-in begins clear =
+        record {
+          each = λ j h. record { each = λ i m. rw (place-out i j m h) (clear .inside _ _ _ (begins .batch) (count-in left r m) (count-in right c h)) };
+        }
+
+  -- ---- C's words are put at D's places
+  module _ {rows cols down across : Block} (r : SideBlock p G x C left rows) (c : SideBlock p G x C right cols) {from : ℕ} (e : from ≡ atBatch p (x .batch) C)
+      (u : SideBlock p G x D left down) (v : SideBlock p G x D right across) {to : ℕ} (f : to ≡ atBatch p (x .batch) D) where
+    pub copyable : {m n : ℕ} → Fits G → Begins G x → OutputClear p G C m → OutputClear p G D n → Copyable from rows cols to down across m n
+    copyable fits begins reads writes =
+        record {
+          few-rows = in-block left u fits;
+          few-columns = in-block right v fits;
+          same-rows = r .used ∙ sym (u .used);
+          same-columns = c .used ∙ sym (v .used);
+          reads = places-in C r c e begins reads;
+          writes = places-in D u v f begins writes;
+        }
+      where
+        in-block : (s : Side) {b : Block} → SideBlock p G x D s b → Fits G → b .count ≤ blockLimit
+        in-block s k fits = le-trans (in-lane s k fits .fits) (in-lane s k fits .narrow)
+
+    pub copied : (words d : List ℕ) {after : List ℕ} → after ≡ each (across .count) (columnCopied words from rows cols to down across) d → after ≡ fromC p G x words d
+    unfolding tileAt
+    copied words d q =
+        q ∙ each-ext (across .count) (λ j l. each-ext (down .count) (λ i h. one i j h l)) d ∙ rw (u .used, v .used)
+      where
+        one : (i j : ℕ) → i < down .count → j < across .count → (xs : List ℕ)
+            → put (λ old. getD words (placeOf (placeOf from (cols .offsets) j) (rows .offsets) i) 0) (placeOf (placeOf to (across .offsets) j) (down .offsets) i) xs
+            ≡ put (λ old. getD words (placeOut p C (x .batch) (x .row * G .rows + i) (x .column * G .cols + j)) 0)
+            (placeOut p D (x .batch) (x .row * G .rows + i) (x .column * G .cols + j)) xs
+        one i j h l xs = rw (place-out D u v f i j h l, place-out C r c e i j (rw (r .used, ← u .used) h) (rw (c .used, ← v .used) l))
+
   -- ---- the packed blocks are multiplied
   module _ {rows cols : Block} (r : SideBlock p G x D left rows) (c : SideBlock p G x D right cols) {from : ℕ} (e : from ≡ atBatch p (x .batch) D)
       {filled : ℕ} (f : filled ≡ panelWidth G x) where
-    place-d : (i j : ℕ) → i < rows .count → j < cols .count
-        → placeOf (placeOf from (cols .offsets) j) (rows .offsets) i ≡ placeD p (x .batch) (x .row * G .rows + i) (x .column * G .cols + j)
-    unfolding placeD
-    place-d i j h l = rw (e, c .offsets j (rw (c .used) at l), r .offsets i (rw (r .used) at h))
-
-    pub multipliable : {d work : ℕ} → Fits G → Begins G x → OutputClear p G d → packs G ≤ work
+    pub multipliable : {d work : ℕ} → Fits G → Begins G x → OutputClear p G D d → packs G ≤ work
         → Multipliable from (rows .offsets) (rows .count) (asStep (rows .step)) (cols .offsets) (cols .count) (asStep (cols .step)) (packing G filled) d work
     multipliable fits begins clear room =
         record {
@@ -115,17 +154,14 @@ module _ (p : Plan) (G : Cut) (x : Tile) where
           column = in-lane right c fits;
           lanes = rw f (width-le (G .K) (G .depth) (x .panel));
           shallow = fits .depth-few;
-          writes =
-              record {
-                each = λ j h. record { each = λ i m. rw (place-d i j m h) (clear .writes _ _ _ (begins .batch) (count-in left r m) (count-in right c h)) };
-              };
+          writes = places-in D r c e begins clear;
           room = room;
         }
 
     -- ---- what the stores leave, whichever words of A and B were packed
     module _ (alpha beta : ℕ) {first : Bool} (z : first ≡ eqb (x .panel) 0) {work : List ℕ} (a b : List ℕ) (w : PackedIn p G x a b work) where
       abbrev S : Setting
-      S = planSetting p G alpha beta a b
+      S = planSetting p G false alpha beta a b []
 
       abbrev factors : Factors
       factors = record { alpha = alpha; beta = beta; first = first }
@@ -158,9 +194,9 @@ module _ (p : Plan) (G : Cut) (x : Tile) where
 
       store-added : (i j : ℕ) → i < rows .count → j < cols .count → (xs : List ℕ)
           → stores j i xs
-          ≡ put (addPanel S (x .panel) (x .batch) (x .row * G .rows + i) (x .column * G .cols + j)) (placeD p (x .batch) (x .row * G .rows + i) (x .column * G .cols + j)) xs
+          ≡ put (addPanel S (x .panel) (x .batch) (x .row * G .rows + i) (x .column * G .cols + j)) (placeOut p D (x .batch) (x .row * G .rows + i) (x .column * G .cols + j)) xs
       unfolding put
-      store-added i j h l xs = rw (place-d i j h l) (ap (set xs _) (word-added i j (rw (r .used) at h) (rw (c .used) at l) _))
+      store-added i j h l xs = rw (place-out D r c e i j h l) (ap (set xs _) (word-added i j (rw (r .used) at h) (rw (c .used) at l) _))
 
       pub multiplied : (d : List ℕ) {after : List ℕ} → after ≡ each (cols .count) (λ j. each (rows .count) (stores j)) d
           → after ≡ tileAt G (visit S) (x .batch) (x .column) (x .panel) (x .row) d

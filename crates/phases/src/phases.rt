@@ -1,12 +1,15 @@
 ghost use mathlib.Core.Path.{_≡_};
+ghost use mathlib.Core.Bool.{true};
 ghost use lib.ListN.{length};
 ghost use Prim.Native.Nat.{_≤_};
+ghost use Rattle.contraction.specs.Operands.{C, D};
 ghost use Rattle.tiles.specs.Grid.{cutIn};
 ghost use Rattle.tile_blocks.specs.Planned.{GridOf};
 ghost use Rattle.tile_blocks.specs.Side.{left, right};
 ghost use Rattle.tile_blocks.specs.TilePlaces.{Begins};
-ghost use Rattle.phases.specs.Phases.{packs, SideClear, packedSide, OutputClear, Multiplied};
+ghost use Rattle.phases.specs.Phases.{packs, SideClear, packedSide, OutputClear, fromC, begun, Multiplied};
 use contraction::contraction::Contraction;
+use copy::copy::copy_tile;
 use limits::limits::Limits;
 use multiply::multiply::Packing;
 use multiply::multiply::multiply;
@@ -82,7 +85,51 @@ pub fn pack_b(p: Plan, g: Grid, at: Tile, b: &[u32], work: &mut [u32])
     );
 }
 
-// The third phase: the product of the packed blocks goes to D.
+// The words of C in a tile, put at the tile's places in D.
+fn copy_c(p: Plan, g: Grid, at: Tile, c: &[u32], d: &mut [u32])
+    requires { ⌜ GridOf p g
+        × Begins (cutIn g) at
+        × OutputClear p (cutIn g) C (length (now c))
+        × OutputClear p (cutIn g) D (length (now d)) ⌝ }
+    ensures { λ _. ⌜ now (d .exit) ≡ fromC p (cutIn g) at (now (c .entry)) (now (d .entry)) ⌝ }
+{
+    let counts = g.counts;
+    let sizes = g.sizes;
+    let from = at_batch(p.base, p.groups.batch, Contraction::C, at.batch);
+    let rows = cut_block(p.groups.row, Contraction::C, counts.row, sizes.rows, at.row);
+    let cols = cut_block(
+        p.groups.column,
+        Contraction::C,
+        counts.column,
+        sizes.cols,
+        at.column,
+    );
+    let to = at_batch(p.base, p.groups.batch, Contraction::D, at.batch);
+    let down = cut_block(p.groups.row, Contraction::D, counts.row, sizes.rows, at.row);
+    let across = cut_block(
+        p.groups.column,
+        Contraction::D,
+        counts.column,
+        sizes.cols,
+        at.column,
+    );
+    copy_tile(c, from, rows, cols, d, to, down, across);
+}
+
+// The third phase: where C is named, the sums of the first panel start from its words, which are put at the tile's places in D.
+pub fn start_from_c(p: Plan, g: Grid, at: Tile, named: bool, c: &[u32], d: &mut [u32])
+    requires { ⌜ GridOf p g
+        × Begins (cutIn g) at
+        × (named ≡ true → OutputClear p (cutIn g) C (length (now c)))
+        × OutputClear p (cutIn g) D (length (now d)) ⌝ }
+    ensures { λ _. ⌜ now (d .exit) ≡ begun p (cutIn g) at named (now (c .entry)) (now (d .entry)) ⌝ }
+{
+    if named & (at.panel == 0) {
+        copy_c(p, g, at, c, d);
+    }
+}
+
+// The fourth phase: the product of the packed blocks goes to D.
 pub fn multiply_into_d(
     p: Plan,
     g: Grid,
@@ -94,7 +141,7 @@ pub fn multiply_into_d(
 )
     requires { ⌜ GridOf p g
         × Begins (cutIn g) at
-        × OutputClear p (cutIn g) (length (now d))
+        × OutputClear p (cutIn g) D (length (now d))
         × (packs (cutIn g) ≤ length (now work)) ⌝ }
     ensures { λ _. ⌜ Multiplied p (cutIn g) at alpha beta (now (work .entry)) (now (d .entry)) (now (d .exit)) ⌝ }
 {

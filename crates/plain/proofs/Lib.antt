@@ -1,2 +1,3 @@
 pub mod PlainAnswered
 pub mod PlainDemand
+pub mod PlainWithoutC

@@ -1,20 +1,13 @@
 -- What a call answers and leaves, where a question refused and where all passed.
 -- Assumes nothing.
-use mathlib.Core.Path.{_≡_, sym, ap, _∙_}
-use mathlib.Core.List.{List}
+use mathlib.Core.Path.{_≡_, sym, _∙_}
 use Prim.Native.Nat.{ℕ}
 use Rattle.contraction.specs.declared.contraction.Contraction.{Contraction}
-use Rattle.contraction.specs.Operands.{Operand, D, three, tensors, lengths}
-use Rattle.contraction.proofs.SliceLengths.{lengthsOf, slice-lengths}
-use Rattle.tensor_answers.specs.Asking.{refusal}
-use Rattle.questions.specs.Questions.{layoutQuestions}
+use Rattle.contraction.specs.Operands.{D}
 use Rattle.tensor_answers.proofs.Refusal.{answers-no, answers-yes}
 use Rattle.meaning.specs.Meaning.{Slices, firstNo, result}
 use Rattle.answers.specs.PlainAnswer.{plainDone, plainRefused, plainCallOf}
 use Rattle.plain.specs.PlainCall.{plainCall}
-
-pub asked : (c : Contraction) (a b d : List ℕ) {k : ℕ} → k ≡ refusal (layoutQuestions (tensors c) (lengths (lengthsOf a b d))) → k ≡ firstNo c (three a b d)
-asked c a b d e = e ∙ ap (λ (n : Operand → ℕ). refusal (layoutQuestions (tensors c) n)) (slice-lengths a b d)
 
 module _ (c : Contraction) (w : Slices) {k : ℕ} (e : k ≡ firstNo c w) where
   pub call-refused : (k ≡ 0 → ⊥) → plainCallOf (plainRefused k) (w D) ≡ plainCall c w

@@ -1,2 +1,3 @@
 pub mod PlainCall
 pub mod PlainDemand
+pub mod PlainWithoutC

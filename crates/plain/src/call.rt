@@ -1,5 +1,5 @@
 ghost use mathlib.Core.Path.{_≡_};
-ghost use Rattle.contraction.specs.Operands.{three};
+ghost use Rattle.contraction.specs.Operands.{four};
 ghost use Rattle.answers.specs.PlainAnswer.{plainAnswer, plainCallOf};
 ghost use Rattle.plain.specs.PlainCall.{plainCall};
 use answers::plain_answer::Outcome;
@@ -10,28 +10,31 @@ use plan::plan::output_plan_of;
 use questions::questions::first_no;
 use sums::walk::walk_of;
 
-// Questions 1 to 9; where all pass, D's words become the contraction's. A refusal changes no word.
-pub fn contract(c: Contraction, a: &[u32], b: &[u32], d: &mut [u32]) -> Outcome
+// Questions 1 to 9; where all pass, D's words become the contraction's. A refusal changes no word. C is read where it is named.
+pub fn contract(k: Contraction, a: &[u32], b: &[u32], c: &[u32], d: &mut [u32]) -> Outcome
     ensures { λ r. ⌜ plainCallOf (plainAnswer r) (now (d .exit))
-        ≡ plainCall c (three (now (a .entry)) (now (b .entry)) (now (d .entry))) ⌝ }
+        ≡ plainCall k (four (now (a .entry)) (now (b .entry)) (now (c .entry)) (now (d .entry))) ⌝ }
 {
     let n = Lengths {
         a: a.len(),
         b: b.len(),
+        c: c.len(),
         d: d.len(),
     };
-    let x = first_no(c, n);
+    let x = first_no(k, n);
     let number = x.number;
     if number != 0 {
         return Outcome::Refused(number);
     }
-    let p = output_plan_of(c, x.lists);
+    let p = output_plan_of(k, x.lists);
     fill(
         a,
         b,
+        c,
         d,
-        c.alpha,
-        c.beta,
+        k.named,
+        k.alpha,
+        k.beta,
         p.base,
         walk_of(p.output),
         walk_of(p.depth),

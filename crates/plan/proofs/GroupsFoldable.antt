@@ -1,32 +1,35 @@
 -- The labels of a contraction that was accepted can be folded: every stride is small, and the product over the letters that pass any test, where an
 -- extent 0 counts as 1, is at most the product over all.
 -- Assumes nothing.
-use mathlib.Core.Path.{_≡_, refl, ap, _∙_, fun-ext}
+use mathlib.Core.Path.{_≡_, refl, sym, ap, _∙_, fun-ext}
 use mathlib.Core.Bool.{Bool, true, false, _&&_}
-use mathlib.Core.List.{List, [], _∷_, map}
-use Prim.Native.Nat.{ℕ, max}
+use mathlib.Core.List.{List, [], _∷_, _++_, map, append-assoc}
+use Prim.Native.Nat.{ℕ, _≤_, max}
 use native.Mathlib.Nat.{le-max-left}
 use native.Mathlib.Decide.{ℕ-discrete}
 use native.Mathlib.Omega.{arith}
 use borrow.Author.Tests.{leb-true}
 use lib.Dec.{leb}
+use lib.ListN.{length, length-append}
 use Rattle.words.specs.Sums.{product}
-use Rattle.words.specs.Lists.{keep, cons-if}
-use Rattle.words.proofs.Lists.{all-of, all-map}
-use Rattle.words.proofs.Sums.{product-keep, product-map, and-split}
+use Rattle.words.specs.Lists.{keep, cons-if, member}
+use Rattle.words.proofs.Lists.{T-true, all-of, all-imp, all-map}
+use Rattle.words.proofs.Sums.{product-keep, product-map, and-split, every-all}
 use Rattle.words.proofs.Tabulate.{length-firstOf}
-use Rattle.limits.specs.Limits.{rankLimit, baseLimit, sliceLimit, productLimit}
+use Rattle.limits.specs.Limits.{rankLimit, baseLimit, sliceLimit, productLimit, labelsLimit}
+use Rattle.layout.specs.declared.layout.Axis.{Axis}
 use Rattle.layout.specs.declared.layout.Layout.{Layout}
-use Rattle.layout.specs.Layout.{noAxis, axes}
+use Rattle.layout.specs.Layout.{noAxis, axes, lettersOf}
 use Rattle.validity.specs.TensorQuestions.{rankFits, stridesValid, sizesValid}
 use Rattle.labels.specs.Labels.{extentOf, labels}
 use Rattle.labels.specs.LetterSets.{has}
 use Rattle.labels.proofs.Facts.{strides-bound}
-use Rattle.points.specs.LabelQuestions.{points, pointsFit}
+use Rattle.points.specs.LabelQuestions.{lettersAmong, lettersSame, points, pointsFit}
 use Rattle.contraction.specs.declared.contraction.Contraction.{Contraction}
 use Rattle.contraction.specs.declared.operands.Operands.{Operands}
-use Rattle.contraction.specs.Operands.{Operand, Shape, tensors, shape, together}
+use Rattle.contraction.specs.Operands.{Operand, A, B, C, D, Shape, tensors, shape, together}
 use Rattle.contraction.specs.TensorAxes.{shapeOf, Ready}
+use Rattle.contraction.proofs.Again.{labels-among, labels-short}
 use Rattle.questions.proofs.Ready.{AllPassed}
 use Rattle.groups.specs.declared.groups.Group.{Group as GroupCode}
 use Rattle.groups.specs.Held.{labelsIn}
@@ -37,15 +40,18 @@ use Rattle.plan.specs.Plan.{AllFoldable}
 use Rattle.folding.proofs.Folding.{addTo, Folding, fold-start, fold-end, fold-skip, fold-add}
 
 module _ (t : Operand → Layout) (n : Operand → ℕ) (p : AllPassed t n) where
+  rank : (o : Operand) → length (axes (t o)) ≤ rankLimit
+  unfolding axes rankFits
+  rank o = omega (arith, leb-true (t o .«letter_count») rankLimit (p .each .ranks o), length-firstOf (t o .«letter_count») noAxis (t o .axes))
+
   small : (c : ℕ) → Small (label (shape t) c)
-  unfolding axes rankFits sizesValid
+  unfolding sizesValid
   small c =
       record {
         strides =
             λ o. omega (
               arith,
-              leb-true (t o .«letter_count») rankLimit (p .each .ranks o),
-              length-firstOf (t o .«letter_count») noAxis (t o .axes),
+              rank o,
               strides-bound (axes (t o)) (and-split (stridesValid (axes (t o))) (leb (t o .base) baseLimit && leb (n o) sliceLimit) (rw (p .each .sizes o) tt) .0) c,
             );
       }
@@ -61,8 +67,22 @@ module _ (t : Operand → Layout) (n : Operand → ℕ) (p : AllPassed t n) wher
         points = omega (arith, leb-true (points (together s)) productLimit (p .fit), e, product-keep (λ c. max 1 (extentOf c (together s))) (λ c. le-max-left 1 _) q cs);
       }
 
+  -- C has D's letters, and each tensor at most 8
+  few-labels : length (labels (together (shape t))) ≤ labelsLimit
+  unfolding together lettersSame
+  few-labels =
+      let d = axes (t D) in
+      let a = axes (t A) in
+      let b = axes (t B) in
+      let c = axes (t C) in
+      let among = all-imp (λ (x : Axis). T-true (member (x .letter) (lettersOf d))) c
+      (every-all (λ x. member (x .letter) (lettersOf d)) c (and-split (lettersAmong c d) (lettersAmong d c) (rw (p .same) tt) .0)) in
+      let e : labels (d ++ (a ++ (b ++ c))) ≡ labels (d ++ (a ++ b)) =
+      ap labels (ap (λ (xs : List Axis). d ++ xs) (sym (append-assoc a b c)) ∙ sym (append-assoc d (a ++ b) c)) ∙ labels-among d (a ++ b) c among in
+      omega (arith, ap length e, labels-short (d ++ (a ++ b)), length-append d (a ++ b), length-append a b, rank A, rank B, rank D)
+
   pub all-foldable : AllFoldable (shape t)
-  all-foldable = record { labels = where-foldable }
+  all-foldable = record { labels = where-foldable; few = few-labels }
 
   pub group-foldable : (g : Group) → Foldable (group (shape t) g)
   unfolding group
@@ -95,19 +115,23 @@ keep-map p f (x ∷ xs) = go (p (f x)) (keep-map p f xs)
     go true e = ap (λ (ys : List _). f x ∷ ys) e
     go false e = e
 
+-- the code's lists have the tensors' axes
+same-shape : (c : Contraction) (x : Operands) → Ready c x → shapeOf x ≡ shape (tensors c)
+same-shape c x r = fun-ext (r .each)
+
+-- there is room for all labels
+pub labels-fit : (c : Contraction) (x : Operands) → Ready c x → AllFoldable (shape (tensors c)) → length (labels (together (shapeOf x))) ≤ labelsLimit
+labels-fit c x r f = rw (same-shape c x r) (f .few)
+
 module _ (c : Contraction) (x : Operands) (r : Ready c x) (f : AllFoldable (shape (tensors c))) (all : GroupCode)
     (e : labelsIn all ≡ map (label (shapeOf x)) (labels (together (shapeOf x)))) (set : ℕ) where
-  -- the code's lists have the tensors' axes
-  same-shape : shapeOf x ≡ shape (tensors c)
-  same-shape = fun-ext (r .each)
-
   kept : keep (λ l. has set (l .letter)) (labelsIn all) ≡ labelsWhere (shapeOf x) (has set)
   kept = ap (keep (λ (l : Label). has set (l .letter))) e ∙ keep-map (λ (l : Label). has set (l .letter)) (label (shapeOf x)) (labels (together (shapeOf x)))
 
   -- what `folded` asks, and what it gives
   pub fold-asks : Foldable (keep (λ l. has set (l .letter)) (labelsIn all))
-  fold-asks = rw (kept, same-shape) (f .labels (has set))
+  fold-asks = rw (kept, same-shape c x r) (f .labels (has set))
 
   pub fold-gives : (g : Shape → List Label) → labelsWhere (shapeOf x) (has set) ≡ g (shapeOf x) → (ls : List Label)
       → ls ≡ fold (keep (λ l. has set (l .letter)) (labelsIn all)) → ls ≡ fold (g (shape (tensors c)))
-  fold-gives g k ls q = q ∙ ap fold (kept ∙ k) ∙ ap (λ (s : Shape). fold (g s)) same-shape
+  fold-gives g k ls q = q ∙ ap fold (kept ∙ k) ∙ ap (λ (s : Shape). fold (g s)) (same-shape c x r)

@@ -21,7 +21,7 @@ use Rattle.layout.specs.Layout.{axes, address}
 use Rattle.validity.specs.TensorQuestions.{stridesValid, sizesValid}
 use Rattle.entries.specs.Bounds.{Inside}
 use Rattle.entries.proofs.Bounds.{inside-every}
-use Rattle.contraction.specs.Operands.{Operand, D, shape}
+use Rattle.contraction.specs.Operands.{Operand, shape}
 use Rattle.questions.proofs.Ready.{AllPassed}
 use Rattle.groups.specs.Groups.{letters, Group, depth, inGroup, labelsWhere, group, outputs, size}
 use Rattle.offsets.specs.Counts.{offsetIn}
@@ -29,7 +29,8 @@ use Rattle.folding.specs.Fold.{fold}
 use Rattle.meaning.specs.Index.{at, outIndex}
 use Rattle.meaning.proofs.EngineIndices.{outputAt, depthAt, out-separate, out-covers, term-separate, term-covers}
 use Rattle.meaning.proofs.IndexParts.{Part, Separate, Below, covered, atParts, offsets, parts-in-range, parts-balanced, address-parts}
-use Rattle.meaning.proofs.OwnGroups.{groupsOf, groupsAt, own-separate, own-cover}
+use Rattle.meaning.proofs.OwnGroups.{groupsOf, groupsAt, own-group, own-separate, own-cover}
+use Rattle.meaning.proofs.Outputs.{inD}
 use Rattle.plan.proofs.GroupsFoldable.{where-foldable}
 use Rattle.plan.proofs.Wrapped.{wraps, folded-word}
 
@@ -74,8 +75,11 @@ module _ (t : Operand → Layout) (n : Operand → ℕ) (p : AllPassed t n) wher
     unfolding group
     own-below = all-map (λ q. q .count < size (labelsWhere (shape t) (q .test))) (λ g. record { test = inGroup (shape t) g; count = m g }) (groupsOf o) h
 
+    covers : (c : ℕ) → member c (letters (shape t) o) ≡ true → covered c own ≡ true
+    covers = own-cover (shape t) m o (own-group (shape t) (p .same) o)
+
     pub index-inside : Inside (t o) (n o) (atParts (shape t) own)
-    index-inside = parts-inside o own (own-separate (shape t) m o) own-below (own-cover (shape t) m o)
+    index-inside = parts-inside o own (own-separate (shape t) m o) own-below covers
 
     abbrev groupOffset : Group → ℕ
     groupOffset g = offsetIn (wordOf 64) o (fold (group (shape t) g)) (m g)
@@ -86,17 +90,21 @@ module _ (t : Operand → Layout) (n : Operand → ℕ) (p : AllPassed t n) wher
     group-offsets (g ∷ gs) = ap (λ (x : ℕ). groupOffset g + x) (group-offsets gs)
 
     pub reached-index : word 64 (t o .base + sumOf groupOffset (groupsOf o)) ≡ address (t o) (atParts (shape t) own)
-    reached-index = rw (group-offsets (groupsOf o)) (reached-parts o own (own-separate (shape t) m o) own-below (own-cover (shape t) m o))
+    reached-index = rw (group-offsets (groupsOf o)) (reached-parts o own (own-separate (shape t) m o) own-below covers)
 
-  -- ---- an output count, alone in D, and with a depth count in every tensor
+  -- ---- an output count, alone in D and C, and with a depth count in every tensor
   module _ (m : ℕ) (h : m < size (outputs (shape t))) where
-    pub out-inside : Inside (t D) (n D) (outIndex (shape t) m)
-    unfolding outputs outIndex
-    out-inside = parts-inside D (outputAt (shape t) m ∷ []) (out-separate (shape t) m) (h, tt) (out-covers (shape t) m)
+    -- in a tensor that has only letters of D
+    module _ (o : Operand) (only : (c : ℕ) → member c (letters (shape t) o) ≡ true → inD (shape t) c ≡ true) where
+      pub out-inside : Inside (t o) (n o) (outIndex (shape t) m)
+      unfolding outputs outIndex
+      out-inside = parts-inside o (outputAt (shape t) m ∷ []) (out-separate (shape t) m) (h, tt) (λ c e. out-covers (shape t) m c (only c e))
 
-    pub reached-out : word 64 (t D .base + offsetIn (wordOf 64) D (fold (outputs (shape t))) m) ≡ address (t D) (outIndex (shape t) m)
-    unfolding outputs outIndex
-    reached-out = ap (word 64) (omega arith) ∙ reached-parts D (outputAt (shape t) m ∷ []) (out-separate (shape t) m) (h, tt) (out-covers (shape t) m)
+      pub reached-out : word 64 (t o .base + offsetIn (wordOf 64) o (fold (outputs (shape t))) m) ≡ address (t o) (outIndex (shape t) m)
+      unfolding outputs outIndex
+      reached-out =
+          ap (word 64) (omega arith)
+          ∙ reached-parts o (outputAt (shape t) m ∷ []) (out-separate (shape t) m) (h, tt) (λ c e. out-covers (shape t) m c (only c e))
 
     module _ (k : ℕ) (i : k < size (group (shape t) depth)) (o : Operand) where
       pub term-inside : Inside (t o) (n o) (at (group (shape t) depth) k (outIndex (shape t) m))

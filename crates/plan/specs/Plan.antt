@@ -3,9 +3,11 @@
 use Prim.Native.Nat.{ℕ, _≤_}
 use mathlib.Core.Path.{_≡_}
 use mathlib.Core.Bool.{Bool}
-use Rattle.limits.specs.Limits.{axesLimit}
+use lib.ListN.{length}
+use Rattle.limits.specs.Limits.{labelsLimit}
 use Rattle.layout.specs.declared.layout.Layout.{Layout}
-use Rattle.contraction.specs.Operands.{Operand, Shape, shape}
+use Rattle.labels.specs.Labels.{labels}
+use Rattle.contraction.specs.Operands.{Operand, Shape, shape, together}
 use Rattle.groups.specs.declared.groups.Group.{Group as GroupCode}
 use Rattle.groups.specs.Groups.{Group, depth, labelsWhere, group, outputs}
 use Rattle.groups.specs.Held.{labelsIn}
@@ -17,8 +19,9 @@ use Rattle.folding.specs.Fold.{fold}
 use Rattle.plan.specs.declared.plan.Plan.{Plan}
 use Rattle.plan.specs.declared.plan.OutputPlan.{OutputPlan}
 
--- the labels whose letters pass any test can be folded
+-- there is room for all labels, and those whose letters pass any test can be folded
 pub record AllFoldable (s : Shape) : Type 0 where
+  pub few : length (labels (together s)) ≤ labelsLimit
   pub labels : (p : ℕ → Bool) → Foldable (labelsWhere s p)
 
 -- where each tensor begins
@@ -31,12 +34,12 @@ planned p g = groupsIn (p .groups) g
 
 pub record Planned (t : Operand → Layout) (p : Plan) : Type 0 where
   pub groups : (g : Group) → labelsIn (planned p g) ≡ fold (group (shape t) g)
-  pub few : (g : Group) → planned p g .count ≤ axesLimit
+  pub few : (g : Group) → planned p g .count ≤ labelsLimit
   pub bases : (o : Operand) → wordsIn (p .base) o ≡ t o .base
 
 pub record OutputPlanned (t : Operand → Layout) (p : OutputPlan) : Type 0 where
   pub output : labelsIn (p .output) ≡ fold (outputs (shape t))
-  pub few-output : p .output .count ≤ axesLimit
+  pub few-output : p .output .count ≤ labelsLimit
   pub depth : labelsIn (p .depth) ≡ fold (group (shape t) depth)
-  pub few-depth : p .depth .count ≤ axesLimit
+  pub few-depth : p .depth .count ≤ labelsLimit
   pub bases : (o : Operand) → wordsIn (p .base) o ≡ t o .base

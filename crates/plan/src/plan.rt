@@ -1,3 +1,5 @@
+ghost use mathlib.Core.Path.{_≡_};
+ghost use mathlib.Core.Bool.{cond};
 ghost use Rattle.contraction.specs.Operands.{tensors, shape};
 ghost use Rattle.contraction.specs.TensorAxes.{Ready};
 ghost use Rattle.plan.specs.Plan.{AllFoldable, Bases, Planned, OutputPlanned};
@@ -23,13 +25,26 @@ pub struct OutputPlan {
     pub base: Offsets,
 }
 
+// Where C begins. Where C is not named, that is where D begins.
+fn base_of_c(named: bool, c: u32, d: u32) -> u32
+    ensures { λ r. ⌜ r ≡ cond named c d ⌝ }
+{
+    if named { c } else { d }
+}
+
 fn base_of(c: Contraction) -> Offsets
     ensures { λ r. ⌜ Bases (tensors c) r ⌝ }
 {
     let a = c.a;
     let b = c.b;
+    let third = c.c;
     let d = c.d;
-    let words = [a.base as u64, b.base as u64, d.base as u64];
+    let words = [
+        a.base as u64,
+        b.base as u64,
+        base_of_c(c.named, third.base, d.base) as u64,
+        d.base as u64,
+    ];
     Offsets { words }
 }
 

@@ -1,1 +1,2 @@
 pub mod LabelCases
+pub mod SameLetters

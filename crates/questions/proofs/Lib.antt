@@ -1,2 +1,3 @@
 pub mod QuestionCases
 pub mod Ready
+pub mod QuestionsWithoutC

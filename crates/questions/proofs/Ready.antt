@@ -7,9 +7,9 @@ use Prim.Native.Nat.{ℕ}
 use Rattle.layout.specs.declared.layout.Layout.{Layout}
 use Rattle.layout.specs.Layout.{axes}
 use Rattle.validity.specs.TensorQuestions.{rankFits, countsMatch, lettersValid, extentsValid, sizesValid}
-use Rattle.points.specs.LabelQuestions.{extentsAgree, pointsFit}
+use Rattle.points.specs.LabelQuestions.{extentsAgree, lettersSame, pointsFit}
 use Rattle.entries.specs.EntryQuestions.{inside, apart}
-use Rattle.contraction.specs.Operands.{Operand, D, shape, together}
+use Rattle.contraction.specs.Operands.{Operand, C, D, shape, together}
 use Rattle.tensor_answers.specs.Asking.{refusal}
 use Rattle.tensor_answers.specs.OwnQuestions.{tensorQuestions}
 use Rattle.questions.specs.Questions.{lentTensors, labelQuestions, entryQuestions, layoutQuestions}
@@ -27,6 +27,7 @@ pub record EachPassed (t : Operand → Layout) (n : Operand → ℕ) : Type 0 wh
 pub record AllPassed (t : Operand → Layout) (n : Operand → ℕ) : Type 0 where
   pub each : EachPassed t n
   pub agree : extentsAgree (together (shape t)) ≡ true
+  pub same : lettersSame (axes (t C)) (axes (t D)) ≡ true
   pub fit : pointsFit (together (shape t)) ≡ true
   pub within : (o : Operand) → inside (axes (t o)) (t o .base) (n o) ≡ true
   pub distinct : apart (axes (t D)) ≡ true
@@ -52,7 +53,8 @@ accepted-parts t n e =
     record {
       each = each-passed t n (r .0);
       agree = a .0;
-      fit = a .1 .0;
-      within = of-each (λ o. inside (axes (t o)) (t o .base) (n o)) (a .1 .1 .0);
-      distinct = a .1 .1 .1 .0;
+      same = a .1 .0;
+      fit = a .1 .1 .0;
+      within = of-each (λ o. inside (axes (t o)) (t o .base) (n o)) (a .1 .1 .1 .0);
+      distinct = a .1 .1 .1 .1 .0;
     }

@@ -1,3 +1,4 @@
 pub mod ListedTensors
 pub mod QuestionCases
 pub mod Questions
+pub mod QuestionsWithoutC

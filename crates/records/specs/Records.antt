@@ -1,7 +1,7 @@
 -- A tensor's two records in a job file: what each holds, or the number that refuses it.
 -- Assumes nothing.
 use Prim.Native.Nat.{ℕ, _+_, _*_}
-use mathlib.Core.Bool.{Bool, not, cond}
+use mathlib.Core.Bool.{Bool, not, cond, _&&_}
 use mathlib.Core.List.{List, map}
 use lib.Dec.{eqb, leb}
 use Rattle.words.specs.Words.{signed}
@@ -46,6 +46,10 @@ module _ (file : List ℕ) where
 
   abbrev pub widthAt : ℕ → ℕ → ℕ
   widthAt t at = wordWidth t (kindAt at)
+
+  -- does the layout of tensor t begin here?
+  abbrev pub layoutBegins : ℕ → ℕ → Bool
+  layoutBegins t at = has file at 2 && isLayout t (kindAt at)
 
   -- a layout from its letters on: r letters, r extents, r strides, the base
   unfoldable pub layoutAt : ℕ → ℕ → Layout

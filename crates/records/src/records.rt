@@ -1,6 +1,7 @@
+ghost use mathlib.Core.Path.{_≡_};
 ghost use Prim.Native.Nat.{_+_, _≤_};
 ghost use lib.ListN.{length};
-ghost use Rattle.records.specs.Records.{layoutRecord, wordsRecord, wordsAfter, tensorRecords};
+ghost use Rattle.records.specs.Records.{layoutBegins, layoutRecord, wordsRecord, wordsAfter, tensorRecords};
 ghost use Rattle.records.specs.RecordParts.{layoutPart, wordsPart, tensorParts, layoutIn, wordsOf, tensorIn, LayoutHeld, WordsHeld, TensorHeld, ReadAs};
 use limits::limits::Limits;
 use little_endian::numbers::Cursor;
@@ -43,6 +44,17 @@ pub enum WordsRead {
 pub enum TensorRead {
     Got { parts: TensorParts, next: Cursor },
     Refused(u32),
+}
+
+// Does the layout of the tensor with this letter begin here?
+pub fn layout_begins(file: &[u8], from: Cursor, letter: u8) -> bool
+    requires { ⌜ from .at ≤ length (now file) ⌝ }
+    ensures { λ r. ⌜ r ≡ layoutBegins (now (file .entry)) letter (from .at) ⌝ }
+{
+    if !from.has(file, 2) {
+        return false;
+    }
+    is_layout(kind_of(two_bytes(file, from.at)), letter)
 }
 
 // The layout of the tensor with this letter.

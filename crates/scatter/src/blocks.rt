@@ -1,7 +1,7 @@
 ghost use mathlib.Core.Path.{_≡_};
 ghost use Prim.Native.Nat.{_+_, _^_, _<_, _≤_};
 ghost use lib.ListN.{length};
-ghost use Rattle.limits.specs.Limits.{axesLimit, blockLimit};
+ghost use Rattle.limits.specs.Limits.{labelsLimit, blockLimit};
 ghost use Rattle.contraction.specs.TensorPlaces.{tensorCount, operandAt};
 ghost use Rattle.groups.specs.Groups.{size};
 ghost use Rattle.groups.specs.Held.{labelsIn};
@@ -15,7 +15,7 @@ use offsets::offsets::offset_in;
 // The scatter vector of `count` counts of a group from `first` on: their offsets in one tensor, moved by `from`. They are formed anew where the first
 // label starts again, and a step is added elsewhere; `left` is how many steps there are up to the next start.
 pub fn scatter_vector(g: Group, o: usize, from: u64, first: u32, count: usize, out: &mut [u64])
-    requires { ⌜ (g .count ≤ axesLimit)
+    requires { ⌜ (g .count ≤ labelsLimit)
         × (o < tensorCount)
         × (size (labelsIn g) < 2 ^ 32)
         × (first + count ≤ size (labelsIn g))
@@ -45,7 +45,7 @@ pub fn scatter_vector(g: Group, o: usize, from: u64, first: u32, count: usize, o
 
 // In one tensor the block of `count` counts of a group from `first` on.
 pub fn block_of(g: Group, o: usize, first: u32, count: usize) -> Block
-    requires { ⌜ (g .count ≤ axesLimit)
+    requires { ⌜ (g .count ≤ labelsLimit)
         × (o < tensorCount)
         × (size (labelsIn g) < 2 ^ 32)
         × (first + count ≤ size (labelsIn g))

@@ -7,7 +7,7 @@ use lib.ListN.{length, getD}
 use Rattle.words.specs.Sums.{sumTo}
 use Rattle.words.specs.Words.{word, wordOf}
 use Rattle.words.specs.Loops.{Within}
-use Rattle.limits.specs.Limits.{axesLimit, productLimit}
+use Rattle.limits.specs.Limits.{labelsLimit, productLimit}
 use Rattle.contraction.specs.Operands.{Operand, A, B}
 use Rattle.groups.specs.Groups.{Label, size}
 use Rattle.groups.specs.Held.{labelsIn}
@@ -37,20 +37,16 @@ places base g n o = reached o (wordsIn base o) g n
 unfoldable pub dot : ℕ → (ℕ → ℕ) → List ℕ → (ℕ → ℕ) → List ℕ → ℕ
 dot n i a j b = sumTo n (λ k. getD a (i k) 0 * getD b (j k) 0)
 
--- the sum along a run of n places in each tensor
-abbrev pub runSum : ℕ → (ℕ → Operand → ℕ) → List ℕ → List ℕ → ℕ
-runSum n at a b = dot n (λ v. at v A) a (λ v. at v B) b
-
 -- the sum over the counts of the depth group g, from an address word of each tensor
 unfoldable pub sumFrom : List Label → List ℕ → List ℕ → (Operand → ℕ) → ℕ
 sumFrom g a b at = dot (size g) (reached A (at A) g) a (reached B (at B) g) b
 
 -- ---- what the loops may assume
 
--- along a run of n places in each tensor, all that is read is inside
-pub record RunReadable (n : ℕ) (at : ℕ → Operand → ℕ) (a b : List ℕ) : Type 0 where
-  pub inA : Within n (λ v. at v A) (length a)
-  pub inB : Within n (λ v. at v B) (length b)
+-- along a run of n places in A and in B, all that is read is inside
+pub record RunReadable (n : ℕ) (i j : ℕ → ℕ) (a b : List ℕ) : Type 0 where
+  pub inA : Within n i (length a)
+  pub inB : Within n j (length b)
 
 -- from an address word of each tensor, all that the sum over the depth group g reads is inside
 pub record Readable (g : List Label) (a b : List ℕ) (at : Operand → ℕ) : Type 0 where
@@ -64,7 +60,7 @@ over w = labelsIn (w .group)
 -- the code's walk goes over the group in runs of its first label
 pub record Walks (g : List Label) (w : Walk) : Type 0 where
   pub labels : over w ≡ g
-  pub few : w .group .count ≤ axesLimit
+  pub few : w .group .count ≤ labelsLimit
   pub small : size g ≤ productLimit
   pub len : w .len ≡ firstLabel g .extent
   pub step : (o : Operand) → wordsIn (w .step) o ≡ wordOf 64 (firstLabel g .stride o)

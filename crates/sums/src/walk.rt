@@ -1,5 +1,5 @@
 ghost use Prim.Native.Nat.{_≤_};
-ghost use Rattle.limits.specs.Limits.{axesLimit};
+ghost use Rattle.limits.specs.Limits.{labelsLimit};
 ghost use Rattle.groups.specs.Held.{labelsIn};
 ghost use Rattle.groups.specs.Foldable.{Foldable};
 ghost use Rattle.sums.specs.Walk.{Walks};
@@ -16,7 +16,7 @@ pub struct Walk {
 }
 
 pub fn walk_of(g: Group) -> Walk
-    requires { ⌜ (g .count ≤ axesLimit) × Foldable (labelsIn g) ⌝ }
+    requires { ⌜ (g .count ≤ labelsLimit) × Foldable (labelsIn g) ⌝ }
     ensures { λ r. ⌜ Walks (labelsIn g) r ⌝ }
 {
     let label = FirstLabel::of(g);

@@ -1,5 +1,5 @@
 -- Laws of a list of questions: what its refusal says of each question, the refusal of two lists one behind the other, a question that is
--- put to every tensor, and an answer by the refusal. A fourth tensor is one clause more in `of-each`.
+-- put to every tensor, and an answer by the refusal. Another tensor is one clause more in `of-each`.
 -- Assumes nothing.
 use mathlib.Core.Path.{_≡_, refl, sym, ap, _∙_}
 use mathlib.Core.Bool.{Bool, true, false, not, cond}
@@ -11,7 +11,7 @@ use borrow.Author.Tests.{not-true, not-false, eq-eqb, ne-eqb}
 use Rattle.words.specs.Sums.{every, All}
 use Rattle.words.proofs.Lists.{T-true}
 use Rattle.words.proofs.Sums.{and-split, every-all}
-use Rattle.contraction.specs.Operands.{Operand, A, B, D, operands}
+use Rattle.contraction.specs.Operands.{Operand, A, B, C, D, operands}
 use Rattle.tensor_answers.specs.Asking.{Question, ask, refusal}
 
 -- every question's number is above 0, so that 0 says that none failed
@@ -71,7 +71,8 @@ of-each p e o = T-true (p o) (at o)
     at : (o : Operand) → T (p o)
     at A = each .0
     at B = each .1 .0
-    at D = each .1 .1 .0
+    at C = each .1 .1 .0
+    at D = each .1 .1 .1 .0
 
 -- the code's answer r to a question p was tested by `!r`
 module _ {r p : Bool} (e : r ≡ p) where

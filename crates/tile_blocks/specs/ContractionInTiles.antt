@@ -4,10 +4,10 @@ use Prim.Native.Nat.{ℕ}
 use mathlib.Core.List.{List, [], _∷_}
 use Rattle.layout.specs.Layout.{address}
 use Rattle.contraction.specs.declared.contraction.Contraction.{Contraction}
-use Rattle.contraction.specs.Operands.{D, tensors}
+use Rattle.contraction.specs.Operands.{C, D, tensors}
 use Rattle.groups.specs.Groups.{Label, Group, batch, row, column, depth, group, size}
 use Rattle.meaning.specs.Index.{index}
-use Rattle.meaning.specs.Meaning.{Slices, shapeIn, entry}
+use Rattle.meaning.specs.Meaning.{Slices, shapeIn, startOf, entry}
 use Rattle.tiles.specs.declared.grid.Sizes.{Sizes}
 use Rattle.tiles.specs.Cut.{Cut, cutBy}
 use Rattle.tiles.specs.Setting.{Setting, settingBy}
@@ -21,9 +21,17 @@ cutGroups g = cutBy (record { batch = size (g batch); row = size (g row); column
 abbrev pub cutOf : Contraction → Sizes → Cut
 cutOf c = cutGroups (group (shapeIn c))
 
--- where the output index of a batch, a row and a column count lies in D's slice; D has no depth label
+-- the index of a batch, a row and a column count; C and D have no depth label
+abbrev pub outputIndex : Contraction → ℕ → ℕ → ℕ → ℕ → ℕ
+outputIndex c h i j = index (shapeIn c) ((batch, h) ∷ (row, i) ∷ (column, j) ∷ [])
+
+-- where the output index of a batch, a row and a column count lies in D's slice
 unfoldable pub addressAt : Contraction → ℕ → ℕ → ℕ → ℕ
-addressAt c h i j = address (tensors c D) (index (shapeIn c) ((batch, h) ∷ (row, i) ∷ (column, j) ∷ []))
+addressAt c h i j = address (tensors c D) (outputIndex c h i j)
+
+-- what the sum of that output index starts from, given the old word
+unfoldable pub startAt : Contraction → Slices → ℕ → ℕ → ℕ → ℕ → ℕ
+startAt c w h i j old = startOf (c .named) (entry c w C (outputIndex c h i j)) old
 
 -- a side's entry at a batch count, a count m of its group and a depth count; A has no column label and B no row label
 unfoldable pub entryOn : Contraction → Slices → Side → ℕ → ℕ → ℕ → ℕ
@@ -31,4 +39,4 @@ entryOn c w s h m k = entry c w (tensorOn s) (index (shapeIn c) ((depth, k) ∷ 
 
 -- the contraction as its tiles see it
 unfoldable pub setting : Contraction → Sizes → Slices → Setting
-setting c z w = settingBy (cutOf c z) (addressAt c) (entryOn c w left) (entryOn c w right) (c .alpha) (c .beta)
+setting c z w = settingBy (cutOf c z) (addressAt c) (entryOn c w left) (entryOn c w right) (startAt c w) (c .alpha) (c .beta)

@@ -5,7 +5,7 @@ use mathlib.Core.Path.{_≡_}
 use mathlib.Core.List.{List}
 use lib.ListN.{getD}
 use Rattle.words.specs.Words.{word, wordOf}
-use Rattle.limits.specs.Limits.{axesLimit, productLimit}
+use Rattle.limits.specs.Limits.{labelsLimit, productLimit}
 use Rattle.contraction.specs.Operands.{Operand}
 use Rattle.groups.specs.declared.groups.Group.{Group}
 use Rattle.groups.specs.Groups.{Label, size}
@@ -22,7 +22,7 @@ movedFrom x o g n = word 64 (x + word 64 (offsetIn (wordOf 64) o g n))
 
 -- a group's n counts in blocks of b, of which block k begins inside; b is at most the limit
 pub record Part (limit : ℕ) (g : Group) (n b k : ℕ) : Type 0 where
-  pub few : g .count ≤ axesLimit
+  pub few : g .count ≤ labelsLimit
   pub counts : n ≡ size (labelsIn g)
   pub small : n ≤ productLimit
   pub begins : k * b ≤ n

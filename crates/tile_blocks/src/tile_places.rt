@@ -1,6 +1,6 @@
 ghost use mathlib.Core.Path.{_≡_};
 ghost use Prim.Native.Nat.{_*_, _<_, _≤_};
-ghost use Rattle.limits.specs.Limits.{axesLimit, blockLimit, depthLimit};
+ghost use Rattle.limits.specs.Limits.{labelsLimit, blockLimit, depthLimit};
 ghost use Rattle.contraction.specs.TensorPlaces.{tensorCount, operandAt};
 ghost use Rattle.groups.specs.Groups.{size};
 ghost use Rattle.groups.specs.Held.{labelsIn};
@@ -19,7 +19,7 @@ use tiles::grid::width_of;
 
 // A tensor's address at a count of the batch group.
 pub fn at_batch(base: Offsets, g: Group, o: usize, h: u32) -> u64
-    requires { ⌜ (g .count ≤ axesLimit) × (o < tensorCount) × (h < size (labelsIn g)) ⌝ }
+    requires { ⌜ (g .count ≤ labelsLimit) × (o < tensorCount) × (h < size (labelsIn g)) ⌝ }
     ensures { λ r. ⌜ r ≡ movedFrom (wordsIn base (operandAt o)) (operandAt o) (labelsIn g) h ⌝ }
 {
     std::num::wrapping_add_u64(base.words[o], offset_in(g, o, h))

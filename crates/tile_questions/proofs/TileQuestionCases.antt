@@ -4,7 +4,7 @@ use mathlib.Core.Path.{refl}
 use Rattle.layout.specs.Layout.{axesOf, layoutOf, axes}
 use Rattle.validity.specs.TensorQuestions.{rankFits, countsMatch, lettersValid, extentsValid, stridesValid, sizesValid}
 use Rattle.labels.specs.Labels.{labels}
-use Rattle.points.specs.LabelQuestions.{extentsAgree, points, pointsFit}
+use Rattle.points.specs.LabelQuestions.{extentsAgree, lettersSame, points, pointsFit}
 use Rattle.entries.specs.EntryQuestions.{hasEntries, span, inside, below, stridesApart, apart}
 use Rattle.contraction.specs.Operands.{together}
 use Rattle.tensor_answers.specs.OwnQuestions.{tensorQuestions}
@@ -15,7 +15,7 @@ use Rattle.tile_questions.specs.TileQuestions.{sizesFit, sizeQuestion, r
 use Rattle.tile_questions.specs.TileQuestionCases.{TileQuestionCases}
 
 pub tile-question-cases : TileQuestionCases
-unfolding axesOf layoutOf axes rankFits countsMatch lettersValid extentsValid stridesValid sizesValid labels extentsAgree points pointsFit hasEntries span inside below stridesApart apart together tensorQuestions labelQuestions entryQuestions layoutQuestions groupOf inGroup group blocks MB NB KB total sizesFit sizeQuestion roomQuestion doneQuestion indexQuestion acceptQuestions tileQuestions stateQuestions
+unfolding axesOf layoutOf axes rankFits countsMatch lettersValid extentsValid stridesValid sizesValid labels extentsAgree lettersSame points pointsFit hasEntries span inside below stridesApart apart together tensorQuestions labelQuestions entryQuestions layoutQuestions groupOf inGroup group blocks MB NB KB total sizesFit sizeQuestion roomQuestion doneQuestion indexQuestion acceptQuestions tileQuestions stateQuestions
 tile-question-cases =
     record {
       smallest = refl;

@@ -11,7 +11,7 @@ use Rattle.contraction.specs.declared.contraction.Contraction.{Contraction}
 use Rattle.contraction.specs.Operands.{tensors}
 use Rattle.tensor_answers.specs.Asking.{Question, ask, refusal}
 use Rattle.questions.specs.Questions.{layoutQuestions}
-use Rattle.meaning.specs.Meaning.{Slices}
+use Rattle.meaning.specs.Meaning.{Slices, lengthsIn}
 use Rattle.tiles.specs.declared.grid.Sizes.{Sizes}
 use Rattle.tiles.specs.Cut.{Cut, total}
 use Rattle.tile_blocks.specs.ContractionInTiles.{cutOf}
@@ -47,7 +47,7 @@ indexQuestion G h i j = ask 13 (isIndex G h i j) ∷ []
 module _ (c : Contraction) (z : Sizes) (w : Slices) where
   -- 1 to 10
   unfoldable pub acceptQuestions : List Question
-  acceptQuestions = layoutQuestions (tensors c) (λ o. length (w o)) ++ sizeQuestion z
+  acceptQuestions = layoutQuestions (tensors c) (lengthsIn c w) ++ sizeQuestion z
 
   -- a contraction, with tile sizes and slices, is accepted when it passes every question up to 10
   pub record Accepted : Type 0 where

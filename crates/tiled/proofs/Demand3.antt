@@ -12,7 +12,7 @@ use native.Mathlib.Omega.{arith}
 use lib.Dec.{eqb}
 use lib.ListN.{length, getD}
 use Rattle.contraction.specs.declared.contraction.Contraction.{Contraction}
-use Rattle.contraction.specs.Operands.{three}
+use Rattle.contraction.specs.Operands.{four}
 use Rattle.tensor_answers.specs.Asking.{refusal}
 use Rattle.tiles.specs.declared.grid.Sizes.{Sizes}
 use Rattle.tiles.specs.Cut.{total}
@@ -51,73 +51,73 @@ module _ (c : Contraction) (z : Sizes) where
 abbrev ahead : Answer → After → After
 ahead x rest = record { said = x ∷ rest .said; t = rest .t; words = rest .words }
 
-module _ (c : Contraction) (z : Sizes) (a b d : List ℕ) (ok : refusal (acceptQuestions c z (three a b d)) ≡ 0) where
+module _ (c : Contraction) (z : Sizes) (a b cw d : List ℕ) (ok : refusal (acceptQuestions c z (four a b cw d)) ≡ 0) where
   abbrev S : Setting
-  S = setting c z (three a b d)
+  S = setting c z (four a b cw d)
 
   -- D's words after t tiles
   abbrev at : ℕ → List ℕ
   at t = closed S t d
 
   is-sound : Sound S (length d)
-  is-sound = let w = accepted c z (three a b d) ok in sound c z (three a b d) (w .0) (w .1)
+  is-sound = let w = accepted c z (four a b cw d) ok in sound c z (four a b cw d) (w .0) (w .1)
 
   -- acceptance reads the length of D's slice only
-  still : (t : ℕ) → refusal (acceptQuestions c z (three a b (at t))) ≡ 0
-  still t = same-questions c z a b d (at t) (length-closed S t d) ∙ ok
+  still : (t : ℕ) → refusal (acceptQuestions c z (four a b cw (at t))) ≡ 0
+  still t = same-questions c z a b cw d (at t) (length-closed S t d) ∙ ok
 
   -- ---- one call, from the closed form at t
 
   -- the tiles from t on
-  ran-closed : (n t : ℕ) → t + n ≤ total (cutOf c z) → walk (setting c z (three a b (at t))) (tilesFrom t n) (at t) ≡ at (t + n)
+  ran-closed : (n t : ℕ) → t + n ≤ total (cutOf c z) → walk (setting c z (four a b cw (at t))) (tilesFrom t n) (at t) ≡ at (t + n)
   unfolding setting
-  ran-closed n t h = ap (λ (s : Setting). walk s (tilesFrom t n) (at t)) (setting-same c z (three a b (at t)) (three a b d) refl refl) ∙ walk-closed S d is-sound n t h
+  ran-closed n t h = ap (λ (s : Setting). walk s (tilesFrom t n) (at t)) (setting-same c z (four a b cw (at t)) (four a b cw d) refl refl refl) ∙ walk-closed S d is-sound n t h
 
   -- what a tile call answers, and the tiles done and D's words that it leaves
   abbrev Leaves : TileCall → Answer → ℕ → Type 0
   Leaves one x t = (tiled (one .answer) ≡ x) × (doneIn (one .answer) ≡ t) × (one .words ≡ at t)
 
   tile-leaves : (budget : ℕ) (work : List ℕ) (t : ℕ) → t ≤ total (cutOf c z)
-      → Leaves (tileCall c z (three a b (at t)) work t budget) (answer c z (tiles budget work) t) (next c z (tiles budget work) t)
+      → Leaves (tileCall c z (four a b cw (at t)) work t budget) (answer c z (tiles budget work) t) (next c z (tiles budget work) t)
   unfolding answer next ranCall
-  tile-leaves budget work t h = rw (tile-answers c z (three a b (at t)) work t budget (still t) h) (go (workFits z (length work)))
+  tile-leaves budget work t h = rw (tile-answers c z (four a b cw (at t)) work t budget (still t) h) (go (workFits z (length work)))
     where
       new : Bool → ℕ
       new x = cond x (t + min budget (total (cutOf c z) - t)) t
 
-      go : (x : Bool) → Leaves (cond x (ranCall c z (three a b (at t)) work t budget) (tileCallOf (tileRefused 11 t) (at t) work))
+      go : (x : Bool) → Leaves (cond x (ranCall c z (four a b cw (at t)) work t budget) (tileCallOf (tileRefused 11 t) (at t) work))
           (tiled (cond x (ran (new x) (eqb (new x) (total (cutOf c z)))) (tileRefused 11 t))) (new x)
       go true = (refl, refl, ran-closed (min budget (total (cutOf c z) - t)) t (omega arith))
       go false = (refl, refl, refl)
 
-  state-said : (h i j t : ℕ) → t ≤ total (cutOf c z) → found (stateCall c z (three a b (at t)) t h i j) ≡ answer c z (state h i j) t
+  state-said : (h i j t : ℕ) → t ≤ total (cutOf c z) → found (stateCall c z (four a b cw (at t)) t h i j) ≡ answer c z (state h i j) t
   unfolding answer
-  state-said h i j t k = ap found (state-answers c z (three a b (at t)) t h i j (still t) k)
+  state-said h i j t k = ap found (state-answers c z (four a b cw (at t)) t h i j (still t) k)
 
   -- ---- any list of them
 
   run-closed : (cs : List Call) (t : ℕ) → t ≤ total (cutOf c z)
-      → run c z a b cs t (at t) ≡ record { said = answers c z cs t; t = count c z cs t; words = at (count c z cs t) }
+      → run c z a b cw cs t (at t) ≡ record { said = answers c z cs t; t = count c z cs t; words = at (count c z cs t) }
   unfolding run count answers next
   run-closed [] t h = refl
   run-closed (tiles budget work ∷ cs) t h =
       let w = tile-leaves budget work t h in
-      (λ k. ahead (w .0 k) (run c z a b cs (w .1 k) (w .2 k)))
+      (λ k. ahead (w .0 k) (run c z a b cw cs (w .1 k) (w .2 k)))
       ∙ ap (ahead (answer c z (tiles budget work) t)) (run-closed cs (next c z (tiles budget work) t) (next-le c z (tiles budget work) h .1))
   run-closed (state i j k ∷ cs) t h =
-      ap (λ (x : Answer). ahead x (run c z a b cs t (at t))) (state-said i j k t h) ∙ ap (ahead (answer c z (state i j k) t)) (run-closed cs t h)
+      ap (λ (x : Answer). ahead x (run c z a b cw cs t (at t))) (state-said i j k t h) ∙ ap (ahead (answer c z (state i j k) t)) (run-closed cs t h)
 
-  whole : (calls : List Call) → run c z a b calls 0 d ≡ record { said = answers c z calls 0; t = count c z calls 0; words = at (count c z calls 0) }
-  whole calls = ap (run c z a b calls 0) (sym (closed-zero S d is-sound)) ∙ run-closed calls 0 zero-le
+  whole : (calls : List Call) → run c z a b cw calls 0 d ≡ record { said = answers c z calls 0; t = count c z calls 0; words = at (count c z calls 0) }
+  whole calls = ap (run c z a b cw calls 0) (sym (closed-zero S d is-sound)) ∙ run-closed calls 0 zero-le
 
-  pub words-closed : (calls : List Call) → run c z a b calls 0 d .words ≡ at (count c z calls 0)
+  pub words-closed : (calls : List Call) → run c z a b cw calls 0 d .words ≡ at (count c z calls 0)
   words-closed calls = ap (λ (x : After). x .words) (whole calls)
 
-  holds : (calls : List Call) → Demand3 c z a b d calls
+  holds : (calls : List Call) → Demand3 c z a b cw d calls
   unfolding setting
   holds calls =
       let n : ℕ = count c z calls 0 in
-      let w : run c z a b calls 0 d .words ≡ at n = words-closed calls in
+      let w : run c z a b cw calls 0 d .words ≡ at n = words-closed calls in
       let s = closed-shows S d is-sound n in
       record {
         said = ap (λ (x : After). x .said) (whole calls);
@@ -131,4 +131,4 @@ module _ (c : Contraction) (z : Sizes) (a b d : List ℕ) (ok : refusal (acceptQ
       }
 
 pub demand3 : EveryListMeetsDemand3
-demand3 c z a b d ok calls = holds c z a b d (ok .passed) calls
+demand3 c z a b cw d ok calls = holds c z a b cw d (ok .passed) calls

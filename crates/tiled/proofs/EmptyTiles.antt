@@ -15,7 +15,7 @@ use Rattle.layout.specs.Layout.{axes}
 use Rattle.entries.specs.EntryQuestions.{hasEntries}
 use Rattle.entries.proofs.Bounds.{in-range-some}
 use Rattle.contraction.specs.declared.contraction.Contraction.{Contraction}
-use Rattle.contraction.specs.Operands.{D, three, tensors}
+use Rattle.contraction.specs.Operands.{D, four, tensors}
 use Rattle.pack.proofs.Packing.{packed-unfilled}
 use Rattle.tiles.specs.declared.grid.Sizes.{Sizes}
 use Rattle.tiles.specs.Cut.{width, InSizes, KB, total, panelOf}
@@ -27,11 +27,11 @@ use Rattle.tiles.proofs.Sizes.{index-has-tile, tile-has-index}
 use Rattle.tiles.proofs.PanelWords.{none-summed}
 use Rattle.tiles.proofs.Closed.{closed-zero}
 use Rattle.tile_blocks.specs.Side.{Side, left, right, tileOn}
-use Rattle.tile_blocks.specs.ContractionInTiles.{cutOf, addressAt, entryOn, setting}
+use Rattle.tile_blocks.specs.ContractionInTiles.{cutOf, outputIndex, addressAt, startAt, entryOn, setting}
 use Rattle.tile_questions.specs.TileQuestions.{workFits, isIndex, Accepted}
 use Rattle.tile_questions.proofs.TileSizes.{sizes-limited}
 use Rattle.tiling.specs.Work.{packedBlock, packedLast, workAfter}
-use Rattle.accept.proofs.Soundness.{at, at-in-range, sound}
+use Rattle.accept.proofs.Soundness.{at-in-range, sound}
 use Rattle.answers.specs.TileAnswer.{ran, tileRefused, tileCallOf}
 use Rattle.answers.specs.StateAnswer.{StateAnswer, is, stateRefused}
 use Rattle.tiled.specs.TileCall.{ranCall, tileCall}
@@ -41,15 +41,15 @@ use Rattle.tiled.proofs.TileAnswered.{tile-answers}
 use Rattle.tiled.proofs.Demand3.{count-le, words-closed, demand3}
 use Rattle.tiled.proofs.Following.{old-first, final-last, passes}
 
-module _ (c : Contraction) (z : Sizes) (a b d : List ℕ) (ok : Accepted c z (three a b d)) where
+module _ (c : Contraction) (z : Sizes) (a b cw d : List ℕ) (ok : Accepted c z (four a b cw d)) where
   rows-pos : 0 < z .rows
-  rows-pos = sizes-limited z (passes c z a b d ok .1) .rows .0
+  rows-pos = sizes-limited z (passes c z a b cw d ok .1) .rows .0
 
   cols-pos : 0 < z .cols
-  cols-pos = sizes-limited z (passes c z a b d ok .1) .cols .0
+  cols-pos = sizes-limited z (passes c z a b cw d ok .1) .cols .0
 
   depth-pos : 0 < z .depth
-  depth-pos = sizes-limited z (passes c z a b d ok .1) .depth .0
+  depth-pos = sizes-limited z (passes c z a b cw d ok .1) .depth .0
 
   -- ---- depth size 0
   module _ (e : cutOf c z .K ≡ 0) where
@@ -57,7 +57,7 @@ module _ (c : Contraction) (z : Sizes) (a b d : List ℕ) (ok : Accepted c z (th
     unfolding KB
     one-panel = omega (arith, e, blocks-le {n = cutOf c z .K} depth-pos)
 
-    zeros : (s : Side) (n x : ℕ) → packedBlock (cutOf c z) (entryOn c (three a b d)) s n x ≡ 0
+    zeros : (s : Side) (n x : ℕ) → packedBlock (cutOf c z) (entryOn c (four a b cw d)) s n x ≡ 0
     unfolding packedBlock width
     zeros s n x = packed-unfilled (tileOn (cutOf c z) s) _ _ _ x (wide s) (rw (none, mul-zero) zero-le)
       where
@@ -68,13 +68,13 @@ module _ (c : Contraction) (z : Sizes) (a b d : List ℕ) (ok : Accepted c z (th
         wide left = rows-pos
         wide right = cols-pos
 
-    beta-old : (calls : List Call) (h i j : ℕ) → InSizes (cutOf c z) h i j
-        → getD (run c z a b calls 0 d .words) (addressAt c h i j) 0
-        ≡ cond (done (cutOf c z) (count c z calls 0) h i j 0) (word 32 (c .beta * getD d (addressAt c h i j) 0)) (getD d (addressAt c h i j) 0)
+    beta-start : (calls : List Call) (h i j : ℕ) → InSizes (cutOf c z) h i j
+        → getD (run c z a b cw calls 0 d .words) (addressAt c h i j) 0
+        ≡ cond (done (cutOf c z) (count c z calls 0) h i j 0) (word 32 (c .beta * startAt c (four a b cw d) h i j (getD d (addressAt c h i j) 0))) (getD d (addressAt c h i j) 0)
     unfolding setting wordAt
-    beta-old calls h i j ix =
-        let S = setting c z (three a b d) in
-        demand3 c z a b d ok calls .addressed h i j ix
+    beta-start calls h i j ix =
+        let S = setting c z (four a b cw d) in
+        demand3 c z a b cw d ok calls .addressed h i j ix
         ∙ rw (none-summed S h i j e (count c z calls 0), mul-zero, add-zero)
 
     old-or-final : (calls : List Call) (h i j : ℕ)
@@ -93,7 +93,7 @@ module _ (c : Contraction) (z : Sizes) (a b d : List ℕ) (ok : Accepted c z (th
       go zero q = refl
       go (suc n) q =
           let first = tile-has-index (cutOf c z) rows-pos cols-pos (rw q (zero-lt-suc n)) in
-          absurd (rw e at (in-range-some (axes (tensors c D)) (at c 0 0 0) (at-in-range c z (three a b d) (passes c z a b d ok .0) (passes c z a b d ok .1) 0 0 0 first)))
+          absurd (rw e at (in-range-some (axes (tensors c D)) (outputIndex c 0 0 0) (at-in-range c z (four a b cw d) (passes c z a b cw d ok .0) (passes c z a b cw d ok .1) 0 0 0 first)))
 
   module _ (e : total (cutOf c z) ≡ 0) where
     stays : (calls : List Call) → count c z calls 0 ≡ 0
@@ -109,12 +109,12 @@ module _ (c : Contraction) (z : Sizes) (a b d : List ℕ) (ok : Accepted c z (th
             let l = and-split (ltb i (cutOf c z .M)) (ltb j (cutOf c z .N)) (k .1) in
             absurd (omega (arith, e, index-has-tile (cutOf c z) rows-pos cols-pos (ltb→lt _ _ (k .0), ltb→lt _ _ (l .0), ltb→lt _ _ (l .1))))
 
-    words-stay : (calls : List Call) → run c z a b calls 0 d .words ≡ d
+    words-stay : (calls : List Call) → run c z a b cw calls 0 d .words ≡ d
     unfolding setting
     words-stay calls =
-        words-closed c z a b d (ok .passed) calls
-        ∙ ap (λ (n : ℕ). closed (setting c z (three a b d)) n d) (stays calls)
-        ∙ closed-zero (setting c z (three a b d)) d (sound c z (three a b d) (passes c z a b d ok .0) (passes c z a b d ok .1))
+        words-closed c z a b cw d (ok .passed) calls
+        ∙ ap (λ (n : ℕ). closed (setting c z (four a b cw d)) n d) (stays calls)
+        ∙ closed-zero (setting c z (four a b cw d)) d (sound c z (four a b cw d) (passes c z a b cw d ok .0) (passes c z a b cw d ok .1))
 
     one-said : (x : Call) → (answer c z x 0 ≡ atOnce z x) × (next c z x 0 ≡ 0)
     unfolding answer next
@@ -134,22 +134,22 @@ module _ (c : Contraction) (z : Sizes) (a b d : List ℕ) (ok : Accepted c z (th
     all-said [] = refl
     all-said (x ∷ calls) = ap₂ _∷_ (one-said x .0) (ap (answers c z calls) (one-said x .1) ∙ all-said calls)
 
-    work-stays : (work : List ℕ) (budget : ℕ) → workFits z (length work) ≡ true → tileCall c z (three a b d) work 0 budget ≡ tileCallOf (ran 0 true) d work
+    work-stays : (work : List ℕ) (budget : ℕ) → workFits z (length work) ≡ true → tileCall c z (four a b cw d) work 0 budget ≡ tileCallOf (ran 0 true) d work
     unfolding ranCall walkTiles tilesFrom workAfter packedLast
-    work-stays work budget fits = tile-answers c z (three a b d) work 0 budget (ok .passed) zero-le ∙ rw (fits, none-run, e)
+    work-stays work budget fits = tile-answers c z (four a b cw d) work 0 budget (ok .passed) zero-le ∙ rw (fits, none-run, e)
       where
         none-run : min budget (total (cutOf c z) - 0) ≡ 0
         none-run = omega (arith, e)
 
-  empties : EmptyTiles c z a b d
+  empties : EmptyTiles c z a b cw d
   empties =
       record {
         one-panel = one-panel;
         zeros = zeros;
-        beta-old = beta-old;
+        beta-start = beta-start;
         old-or-final = λ e calls h i j ix. old-or-final e calls h i j;
         no-tiles = no-tiles;
-        said = λ e calls. demand3 c z a b d ok calls .said ∙ all-said e calls;
+        said = λ e calls. demand3 c z a b cw d ok calls .said ∙ all-said e calls;
         words-stay = words-stay;
         work-stays = work-stays;
       }

@@ -9,9 +9,9 @@ use Prim.Native.Nat.{ℕ, _-_, _≤_, zero-le}
 use native.Mathlib.Omega.{arith}
 use lib.ListN.{length, getD}
 use Rattle.contraction.specs.declared.contraction.Contraction.{Contraction}
-use Rattle.contraction.specs.Operands.{three, tensors}
+use Rattle.contraction.specs.Operands.{four, tensors}
 use Rattle.questions.proofs.Ready.{AllPassed}
-use Rattle.meaning.specs.Meaning.{result}
+use Rattle.meaning.specs.Meaning.{lengthsIn, result}
 use Rattle.meaning.proofs.Demand2.{passed-demand2}
 use Rattle.tiles.specs.declared.grid.Sizes.{Sizes}
 use Rattle.tiles.specs.Cut.{Cut, KB, total}
@@ -53,13 +53,13 @@ unfolding count
 count-append c z [] more t = refl
 count-append c z (x ∷ calls) more t = count-append c z calls more (next c z x t)
 
-module _ (c : Contraction) (z : Sizes) (a b d : List ℕ) (ok : Accepted c z (three a b d)) where
+module _ (c : Contraction) (z : Sizes) (a b cw d : List ℕ) (ok : Accepted c z (four a b cw d)) where
   count-grows : (calls more : List Call) → count c z calls 0 ≤ count c z (calls ++ more) 0
   count-grows calls more = rw (count-append c z calls more 0) (count-le c z more (count-le c z calls zero-le .1) .0)
 
-  same-words : (calls others : List Call) → count c z calls 0 ≡ count c z others 0 → run c z a b calls 0 d .words ≡ run c z a b others 0 d .words
+  same-words : (calls others : List Call) → count c z calls 0 ≡ count c z others 0 → run c z a b cw calls 0 d .words ≡ run c z a b cw others 0 d .words
   same-words calls others e =
-      words-closed c z a b d (ok .passed) calls ∙ ap (λ (n : ℕ). closed (setting c z (three a b d)) n d) e ∙ sym (words-closed c z a b d (ok .passed) others)
+      words-closed c z a b cw d (ok .passed) calls ∙ ap (λ (n : ℕ). closed (setting c z (four a b cw d)) n d) e ∙ sym (words-closed c z a b cw d (ok .passed) others)
 
   -- one call with the budget n comes to n
   one-count : (n : ℕ) (work : List ℕ) → n ≤ total (cutOf c z) → workFits z (length work) ≡ true → n ≡ count c z (tiles n work ∷ []) 0
@@ -67,30 +67,30 @@ module _ (c : Contraction) (z : Sizes) (a b d : List ℕ) (ok : Accepted c z (th
   one-count n work h e = rw e (omega (arith, h))
 
   -- questions 1 to 9 pass, and 10
-  pub passes : AllPassed (tensors c) (λ o. length (three a b d o)) × (sizesFit z ≡ true)
-  passes = accepted c z (three a b d) (ok .passed)
+  pub passes : AllPassed (tensors c) (lengthsIn c (four a b cw d)) × (sizesFit z ≡ true)
+  passes = accepted c z (four a b cw d) (ok .passed)
 
-  as-result : (calls : List Call) → count c z calls 0 ≡ total (cutOf c z) → run c z a b calls 0 d .words ≡ result c (three a b d)
+  as-result : (calls : List Call) → count c z calls 0 ≡ total (cutOf c z) → run c z a b cw calls 0 d .words ≡ result c (four a b cw d)
   unfolding setting
   as-result calls e =
-      words-closed c z a b d (ok .passed) calls
-      ∙ ap (λ (n : ℕ). closed (setting c z (three a b d)) n d) e
-      ∙ closed-result c z (three a b d) (passes .0) (passes .1)
+      words-closed c z a b cw d (ok .passed) calls
+      ∙ ap (λ (n : ℕ). closed (setting c z (four a b cw d)) n d) e
+      ∙ closed-result c z (four a b cw d) (passes .0) (passes .1)
 
-  follows : Consequences c z a b d
+  follows : Consequences c z a b cw d
   unfolding setting
   follows =
       record {
         last-tile = as-result;
-        demand2 = λ calls e. rw (as-result calls e) (passed-demand2 c (three a b d) (passes .0));
+        demand2 = λ calls e. rw (as-result calls e) (passed-demand2 c (four a b cw d) (passes .0));
         old-until = λ calls h i j k. old-first (cutOf c z) (count c z calls 0) h i j;
         final-from = λ calls h i j k. final-last (cutOf c z) (count c z calls 0) h i j;
-        never-past = λ calls. let h = demand3 c z a b d ok calls in rw (h .counted) (h .within);
+        never-past = λ calls. let h = demand3 c z a b cw d ok calls in rw (h .counted) (h .within);
         any-cutting = same-words;
-        one-call = λ calls work e. same-words calls (tiles (count c z calls 0) work ∷ []) (one-count (count c z calls 0) work (demand3 c z a b d ok calls .within) e);
-        final-stays = λ calls more h i j k e. demand3 c z a b d ok (calls ++ more) .addressed h i j k
-            ∙ final-word (setting c z (three a b d)) h i j e (count-grows calls more) (getD d (addressAt c h i j) 0)
-            ∙ sym (demand3 c z a b d ok calls .addressed h i j k);
+        one-call = λ calls work e. same-words calls (tiles (count c z calls 0) work ∷ []) (one-count (count c z calls 0) work (demand3 c z a b cw d ok calls .within) e);
+        final-stays = λ calls more h i j k e. demand3 c z a b cw d ok (calls ++ more) .addressed h i j k
+            ∙ final-word (setting c z (four a b cw d)) h i j e (count-grows calls more) (getD d (addressAt c h i j) 0)
+            ∙ sym (demand3 c z a b cw d ok calls .addressed h i j k);
       }
 
 pub consequences : ConsequencesHold

@@ -3,3 +3,4 @@ pub mod TileAnswered
 pub mod Demand3
 pub mod Following
 pub mod EmptyTiles
+pub mod TilesWithoutC

@@ -1,4 +1,5 @@
--- Demand 3: one claim about a whole list of calls on one accepted contraction, from no tile done and any words of D.
+-- Demand 3: one claim about a whole list of calls on one accepted contraction, from no tile done and any words of D. A's words a, B's b and C's cw stay the
+-- same between calls; where C is not named, cw is not read.
 -- Assumes nothing.
 use Prim.Native.Nat.{ℕ, _+_, _-_, _≤_, _<_, min}
 use mathlib.Core.Path.{_≡_}
@@ -8,7 +9,7 @@ use mathlib.Core.List.{List, [], _∷_, _++_}
 use lib.Dec.{eqb}
 use lib.ListN.{length, getD}
 use Rattle.contraction.specs.declared.contraction.Contraction.{Contraction}
-use Rattle.contraction.specs.Operands.{three}
+use Rattle.contraction.specs.Operands.{four}
 use Rattle.meaning.specs.Meaning.{result}
 use Rattle.meaning.specs.Demand2.{Demand2}
 use Rattle.tiles.specs.declared.grid.Sizes.{Sizes}
@@ -35,17 +36,17 @@ pub record After : Type 0 where
   pub t : ℕ
   pub words : List ℕ
 
-module _ (c : Contraction) (z : Sizes) (a b : List ℕ) where
+module _ (c : Contraction) (z : Sizes) (a b cw : List ℕ) where
   -- a list of calls, each with the tiles done and D's words that the one before it left
   unfoldable pub run : List Call → ℕ → List ℕ → After
   run [] t d = record { said = []; t = t; words = d }
   run (tiles budget work ∷ cs) t d =
-      let one = tileCall c z (three a b d) work t budget in
+      let one = tileCall c z (four a b cw d) work t budget in
       let rest = run cs (doneIn (one .answer)) (one .words) in
       record { said = tiled (one .answer) ∷ rest .said; t = rest .t; words = rest .words }
   run (state h i j ∷ cs) t d =
       let rest = run cs t d in
-      record { said = found (stateCall c z (three a b d) t h i j) ∷ rest .said; t = rest .t; words = rest .words }
+      record { said = found (stateCall c z (four a b cw d) t h i j) ∷ rest .said; t = rest .t; words = rest .words }
 
 -- ---- t and the answers follow the calls' arguments alone
 module _ (c : Contraction) (z : Sizes) where
@@ -69,16 +70,18 @@ module _ (c : Contraction) (z : Sizes) where
   answers (x ∷ cs) t = answer x t ∷ answers cs (next x t)
 
 -- what holds after a list of calls that began at t = 0 with the words d
-pub record Demand3 (c : Contraction) (z : Sizes) (a b d : List ℕ) (calls : List Call) : Type 0 where
-  pub said : run c z a b calls 0 d .said ≡ answers c z calls 0
-  pub counted : run c z a b calls 0 d .t ≡ count c z calls 0
+pub record Demand3 (c : Contraction) (z : Sizes) (a b cw d : List ℕ) (calls : List Call) : Type 0 where
+  pub said : run c z a b cw calls 0 d .said ≡ answers c z calls 0
+  pub counted : run c z a b cw calls 0 d .t ≡ count c z calls 0
   pub within : count c z calls 0 ≤ total (cutOf c z)
-  pub same-length : length (run c z a b calls 0 d .words) ≡ length d
-  -- the word of an output index: the old one while panel 0 isn't done; after that beta × it + alpha × the sum over the panels done
+  pub same-length : length (run c z a b cw calls 0 d .words) ≡ length d
+  -- the word of an output index: the old one while panel 0 isn't done; after that beta × C's entry, or × the old word where C is not named, + alpha × the sum
+  -- over the panels done
   pub addressed : (h i j : ℕ) → InSizes (cutOf c z) h i j
-      → getD (run c z a b calls 0 d .words) (addressAt c h i j) 0 ≡ wordAt (setting c z (three a b d)) (count c z calls 0) h i j (getD d (addressAt c h i j) 0)
+      → getD (run c z a b cw calls 0 d .words) (addressAt c h i j) 0
+      ≡ wordAt (setting c z (four a b cw d)) (count c z calls 0) h i j (getD d (addressAt c h i j) 0)
   -- a word that no output index addresses has its old value
-  pub others : (x : ℕ) → ((h i j : ℕ) → InSizes (cutOf c z) h i j → addressAt c h i j ≢ x) → getD (run c z a b calls 0 d .words) x 0 ≡ getD d x 0
+  pub others : (x : ℕ) → ((h i j : ℕ) → InSizes (cutOf c z) h i j → addressAt c h i j ≢ x) → getD (run c z a b cw calls 0 d .words) x 0 ≡ getD d x 0
   -- old exactly when no panel is done, final exactly when all are
   pub old-when : (h i j : ℕ) → InSizes (cutOf c z) h i j
       → (stateAt (cutOf c z) (count c z calls 0) h i j ≡ old) ↔ ((p : ℕ) → p < KB (cutOf c z) → done (cutOf c z) (count c z calls 0) h i j p ≡ false)
@@ -87,29 +90,29 @@ pub record Demand3 (c : Contraction) (z : Sizes) (a b d : List ℕ) (calls : Lis
 
 -- for every accepted contraction and every list of calls, demand 3 holds
 abbrev pub EveryListMeetsDemand3 : Type 0
-EveryListMeetsDemand3 = (c : Contraction) (z : Sizes) (a b d : List ℕ) → Accepted c z (three a b d) → (calls : List Call) → Demand3 c z a b d calls
+EveryListMeetsDemand3 = (c : Contraction) (z : Sizes) (a b cw d : List ℕ) → Accepted c z (four a b cw d) → (calls : List Call) → Demand3 c z a b cw d calls
 
 -- what follows
-pub record Consequences (c : Contraction) (z : Sizes) (a b d : List ℕ) : Type 0 where
+pub record Consequences (c : Contraction) (z : Sizes) (a b cw d : List ℕ) : Type 0 where
   -- after the last tile D is the plain engine's result, and so meets demand 2
-  pub last-tile : (calls : List Call) → count c z calls 0 ≡ total (cutOf c z) → run c z a b calls 0 d .words ≡ result c (three a b d)
-  pub demand2 : (calls : List Call) → count c z calls 0 ≡ total (cutOf c z) → Demand2 c (three a b d) (run c z a b calls 0 d .words)
+  pub last-tile : (calls : List Call) → count c z calls 0 ≡ total (cutOf c z) → run c z a b cw calls 0 d .words ≡ result c (four a b cw d)
+  pub demand2 : (calls : List Call) → count c z calls 0 ≡ total (cutOf c z) → Demand2 c (four a b cw d) (run c z a b cw calls 0 d .words)
   -- a word is old until its first panel is in, and final from its last panel on
   pub old-until : (calls : List Call) (h i j : ℕ) → InSizes (cutOf c z) h i j
       → (stateAt (cutOf c z) (count c z calls 0) h i j ≡ old) ↔ (done (cutOf c z) (count c z calls 0) h i j 0 ≡ false)
   pub final-from : (calls : List Call) (h i j : ℕ) → InSizes (cutOf c z) h i j
       → (stateAt (cutOf c z) (count c z calls 0) h i j ≡ final) ↔ (done (cutOf c z) (count c z calls 0) h i j (KB (cutOf c z) - 1) ≡ true)
   -- the tiles done never exceed the total
-  pub never-past : (calls : List Call) → run c z a b calls 0 d .t ≤ total (cutOf c z)
+  pub never-past : (calls : List Call) → run c z a b cw calls 0 d .t ≤ total (cutOf c z)
   -- calls that come to the same count leave the same words
-  pub any-cutting : (calls others : List Call) → count c z calls 0 ≡ count c z others 0 → run c z a b calls 0 d .words ≡ run c z a b others 0 d .words
+  pub any-cutting : (calls others : List Call) → count c z calls 0 ≡ count c z others 0 → run c z a b cw calls 0 d .words ≡ run c z a b cw others 0 d .words
   -- so a run that is cut into any calls leaves what one call with the budget of all leaves
   pub one-call : (calls : List Call) (work : List ℕ) → workFits z (length work) ≡ true
-      → run c z a b calls 0 d .words ≡ run c z a b (tiles (count c z calls 0) work ∷ []) 0 d .words
+      → run c z a b cw calls 0 d .words ≡ run c z a b cw (tiles (count c z calls 0) work ∷ []) 0 d .words
   -- a final word never changes again
   pub final-stays : (calls more : List Call) (h i j : ℕ) → InSizes (cutOf c z) h i j → stateAt (cutOf c z) (count c z calls 0) h i j ≡ final
-      → getD (run c z a b (calls ++ more) 0 d .words) (addressAt c h i j) 0 ≡ getD (run c z a b calls 0 d .words) (addressAt c h i j) 0
+      → getD (run c z a b cw (calls ++ more) 0 d .words) (addressAt c h i j) 0 ≡ getD (run c z a b cw calls 0 d .words) (addressAt c h i j) 0
 
 -- for every accepted contraction
 abbrev pub ConsequencesHold : Type 0
-ConsequencesHold = (c : Contraction) (z : Sizes) (a b d : List ℕ) → Accepted c z (three a b d) → Consequences c z a b d
+ConsequencesHold = (c : Contraction) (z : Sizes) (a b cw d : List ℕ) → Accepted c z (four a b cw d) → Consequences c z a b cw d

@@ -1,10 +1,12 @@
 -- D's slice after t tiles: running the first t makes the closed form at t.
 -- The output indices lie at different addresses of D, so a list is told by its length, by its word at each address, and by its words elsewhere.
 -- A walk applies to each word its index's panels, and the first t tiles bring the panels done at t, in order: that is the word of the closed form.
+-- For the same reason a tile visited twice leaves what one visit with both changes does.
 -- At the start no panel is done, which is D itself, and at the end all are, which is the direct sum.
 -- Assumes nothing.
 use mathlib.Core.Path.{_≡_, refl, sym, ap, _∙_, subst}
-use mathlib.Core.List.{List}
+use mathlib.Core.Bool.{Bool, true, false, cond}
+use mathlib.Core.List.{List, [], _∷_, map}
 use Prim.Native.Nat.{ℕ, zero, suc, _+_, _*_, _<_, _≤_, zero-le}
 use native.Mathlib.Nat.{not-suc-le-zero}
 use native.Mathlib.Decide.{decLt, ℕ-discrete, map-dec}
@@ -12,12 +14,12 @@ use native.Mathlib.Omega.{arith}
 use lib.ListN.{length, getD, set, length-set}
 use lib.Seq.{getD-set-same, getD-set-other}
 use Rattle.words.specs.Sums.{sumTo, All}
-use Rattle.words.specs.Lists.{tabulate}
+use Rattle.words.specs.Lists.{tabulate, cons-if}
 use Rattle.words.specs.Words.{word}
 use Rattle.words.specs.Loops.{each, put}
-use Rattle.words.proofs.Store.{length-put, length-each, Changes, changes-iff, changes-same, changes-unique, put-changes, each-changes}
-use Rattle.tiles.specs.Cut.{Cut, KB, total}
-use Rattle.tiles.specs.TileWalk.{walkTiles, panelsOf, after, Cells, OwnPlaces}
+use Rattle.words.proofs.Store.{length-put, length-each, Changes, changes-iff, changes-same, changes-again, changes-unique, put-changes, each-changes}
+use Rattle.tiles.specs.Cut.{Cut, InSizes, KB, total, panelOf}
+use Rattle.tiles.specs.TileWalk.{visitTile, walkTiles, holds, panelsOf, after, Cells, OwnPlaces}
 use Rattle.tiles.specs.Setting.{Setting, wordAt, render, closed, addPanel, visit, walk, tilesFrom}
 use Rattle.tiles.proofs.Visits.{numbers-keep, walk-on, tiles-below}
 use Rattle.tiles.proofs.Walked.{walk-becomes}
@@ -61,31 +63,28 @@ Index = ℕ × ℕ × ℕ
 abbrev pub at : {X : Type 0} → (ℕ → ℕ → ℕ → X) → Index → X
 at f q = f (q .0) (q .1) (q .2)
 
-module _ (S : Setting) where
-  open Setting S using (cut, addr)
+abbrev pub In : Cut → Index → Type 0
+In G q = InSizes G (q .0) (q .1) (q .2)
 
-  abbrev pub place : Index → ℕ
-  place = at addr
+abbrev pub Every : Index → Type 0
+Every q = Unit {0}
 
-  abbrev pub In : Index → Type 0
-  In q = (q .0 < cut .H) × (q .1 < cut .M) × (q .2 < cut .N)
-
-  abbrev pub Every : Index → Type 0
-  Every q = Unit {0}
+module _ (G : Cut) (addr : ℕ → ℕ → ℕ → ℕ) where
+  open Cut G using (H, M, N)
 
   -- E is D with each word w at h, i, j become f h i j w
   abbrev pub Shows : (ℕ → ℕ → ℕ → ℕ → ℕ) → List ℕ → List ℕ → Type 0
-  Shows f = Changes place In Every (at f)
+  Shows f = Changes (at addr) (In G) Every (at f)
 
-  -- is x an address of D?
-  pub find : (x : ℕ) → Dec ((q : Index) × In q × Every q × (place q ≡ x))
+  -- is x the address of an output index?
+  pub find : (x : ℕ) → Dec ((q : Index) × In G q × Every q × (at addr q ≡ x))
   find x =
       map-dec
       (λ w. ((w .0, w .2 .0, w .2 .2 .0), (w .1, w .2 .1, w .2 .2 .1), tt, w .2 .2 .2))
       (λ w. (w .0 .0, w .1 .0, (w .0 .1, w .1 .1, (w .0 .2, w .1 .2, w .3))))
-      (dec-below (cut .H) (λ h. (i : ℕ) × (i < cut .M) × ((j : ℕ) × (j < cut .N) × (addr h i j ≡ x)))
-      (λ h. dec-below (cut .M) (λ i. (j : ℕ) × (j < cut .N) × (addr h i j ≡ x))
-      (λ i. dec-below (cut .N) (λ j. addr h i j ≡ x) (λ j. ℕ-discrete (addr h i j) x))))
+      (dec-below H (λ h. (i : ℕ) × (i < M) × ((j : ℕ) × (j < N) × (addr h i j ≡ x)))
+      (λ h. dec-below M (λ i. (j : ℕ) × (j < N) × (addr h i j ≡ x))
+      (λ i. dec-below N (λ j. addr h i j ≡ x) (λ j. ℕ-discrete (addr h i j) x))))
 
 -- ---- the length stays
 
@@ -114,68 +113,102 @@ words =
       kept = λ y x D. length-set D y x;
     }
 
-module _ (S : Setting) (D : List ℕ) (ok : Sound S (length D)) where
-  open Setting S using (cut, addr)
-  open Cut (S .cut) using (H, M, N)
+-- ---- tiles that make `panel p h i j w` of the word w of h i j
 
-  inj : (q r : Index) → In S q → In S r → place S q ≡ place S r → q ≡ r
-  inj q r iq ir e = let w = ok .places .apart (q .0) (q .1) (q .2) (r .0) (r .1) (r .2) iq ir e in λ k. (w .0 k, w .1 k, w .2 k)
+abbrev puts : (ℕ → ℕ → ℕ → ℕ) → (ℕ → ℕ → ℕ → ℕ → ℕ → ℕ) → ℕ → ℕ → ℕ → ℕ → List ℕ → List ℕ
+puts addr panel p h i j = put (panel p h i j) (addr h i j)
 
-  -- a loop over indices that differ
-  line : (g : Index → ℕ → ℕ) (n : ℕ) (f : ℕ → Index) (E : List ℕ) → length E ≡ length D
-      → ((k : ℕ) → k < n → In S (f k)) → ((k l : ℕ) → f k ≡ f l → k ≡ l)
-      → Changes (place S) (In S) (λ q. (k : ℕ) × (k < n) × (q ≡ f k)) g E (each n (λ k. put (g (f k)) (place S (f k))) E)
-  line g n f E len inside differ =
-      each-changes (place S) (In S) inj g n (λ k. put (g (f k)) (place S (f k))) (λ k q. q ≡ f k) E
-      (λ k b F l. put-changes (place S) (In S) inj g (f k) (inside k b) F (bound k (inside k b) F l))
-      (λ k l q e e′. differ k l (sym e ∙ e′))
-    where
-      bound : (k : ℕ) → In S (f k) → (F : List ℕ) → length F ≡ length E → place S (f k) < length F
-      bound k i F l = omega (arith, ok .places .inside (f k .0) (f k .1) (f k .2) i)
-
-  -- ---- render is what it should be, and the only list that is
-
-  pub render-shows : (f : ℕ → ℕ → ℕ → ℕ → ℕ) → Shows S f D (render S f D)
-  unfolding render
-  render-shows f =
-      changes-iff (place S) (In S) (λ q i w. tt) (λ q i w. (q .0, i .0, (q .2, i .2, (q .1, i .1, refl))))
-      (each-changes (place S) (In S) inj (at f) H (λ h. each N (λ j. each M (λ i. put (f h i j) (addr h i j))))
-      (λ h q. (j : ℕ) × (j < N) × ((i : ℕ) × (i < M) × (q ≡ (h, i, j)))) D
-      (λ h bh E l.
-      each-changes (place S) (In S) inj (at f) N (λ j. each M (λ i. put (f h i j) (addr h i j)))
-      (λ j q. (i : ℕ) × (i < M) × (q ≡ (h, i, j))) E
-      (λ j bj F m. line (at f) M (λ i. (h, i, j)) F (m ∙ l) (λ i bi. (bh, bi, bj)) (λ i i′ e. ap (λ (q : Index). q .1) e))
-      (λ j j′ q w w′. ap (λ (q : Index). q .2) (sym (w .2) ∙ w′ .2)))
-      (λ h h′ q w w′. ap (λ (q : Index). q .0) (sym (w .2 .2) ∙ w′ .2 .2)))
-
-  pub shows-render : (f : ℕ → ℕ → ℕ → ℕ → ℕ) {E : List ℕ} → Shows S f D E → E ≡ render S f D
-  shows-render f c = changes-unique (place S) (In S) (find S) c (render-shows f)
-
-  pub closed-shows : (t : ℕ) → Shows S (wordAt S t) D (closed S t D)
-  unfolding closed
-  closed-shows t = render-shows (wordAt S t)
-
-  shows-closed : (t : ℕ) {E : List ℕ} → Shows S (wordAt S t) D E → E ≡ closed S t D
-  unfolding closed
-  shows-closed t c = shows-render (wordAt S t) c
-
-  -- ---- tiles
-
+module _ (G : Cut) (addr : ℕ → ℕ → ℕ → ℕ) (panel : ℕ → ℕ → ℕ → ℕ → ℕ → ℕ) (D : List ℕ) (own : OwnPlaces G addr (length D)) where
   -- any tiles, in any order: of each word, its index's panels one after the other
-  walk-shows : (ns : List ℕ) → All (λ n. n < total cut) ns → Shows S (λ h i j. after (λ p. addPanel S p h i j) (panelsOf cut ns h i j)) D (walk S ns D)
+  walk-shows : (ns : List ℕ) → All (λ n. n < total G) ns
+      → Shows G addr (λ h i j. after (λ p. panel p h i j) (panelsOf G ns h i j)) D (walkTiles G (puts addr panel) ns D)
   unfolding put
   walk-shows ns below =
-      let c = walk-becomes (List ℕ) ℕ words cut addr (addPanel S) D (ok .places) ns below in
+      let c = walk-becomes (List ℕ) ℕ words G addr panel D own ns below in
       record {
         len = c .same-size;
         hit = λ q i p. c .addressed (q .0) (q .1) (q .2) i;
         miss = λ x off. c .others x (λ h i j k. off (h, i, j) k tt);
       }
 
+  -- one tile
+  tile-shows : (n : ℕ) → n < total G
+      → Shows G addr (λ h i j w. cond (holds G h i j n) (panel (panelOf G n) h i j w) w) D (visitTile G (puts addr panel) n D)
+  unfolding walkTiles panelsOf after
+  tile-shows n below =
+      changes-same (at addr) (In G) (λ q i p w. go (q .0) (q .1) (q .2) w (holds G (q .0) (q .1) (q .2) n)) (walk-shows (n ∷ []) (below, tt))
+    where
+      go : (h i j w : ℕ) (b : Bool) → after (λ p. panel p h i j) (map (panelOf G) (cons-if b n [])) w ≡ cond b (panel (panelOf G n) h i j w) w
+      go h i j w true = refl
+      go h i j w false = refl
+
+-- a tile visited twice is visited once with both changes
+pub twice : (G : Cut) (addr : ℕ → ℕ → ℕ → ℕ) (f g : ℕ → ℕ → ℕ → ℕ → ℕ → ℕ) (xs : List ℕ) → OwnPlaces G addr (length xs) → (n : ℕ) → n < total G
+    → visitTile G (λ p h i j. put (g p h i j) (addr h i j)) n (visitTile G (λ p h i j. put (f p h i j) (addr h i j)) n xs)
+    ≡ visitTile G (λ p h i j. put (λ w. g p h i j (f p h i j w)) (addr h i j)) n xs
+twice G addr f g xs own n below =
+    let c = tile-shows G addr f xs own n below in
+    let d = tile-shows G addr g (visitTile G (puts addr f) n xs) (rw (c .len) own) n below in
+    changes-unique (at addr) (In G) (find G addr)
+    (changes-same (at addr) (In G) (λ q i p w. both (holds G (q .0) (q .1) (q .2) n) (f (panelOf G n) (q .0) (q .1) (q .2)) (g (panelOf G n) (q .0) (q .1) (q .2)) w)
+    (changes-again (at addr) (In G) c d))
+    (tile-shows G addr (λ p h i j w. g p h i j (f p h i j w)) xs own n below)
+  where
+    both : (b : Bool) (f g : ℕ → ℕ) (w : ℕ) → cond b (g (cond b (f w) w)) (cond b (f w) w) ≡ cond b (g (f w)) w
+    both true f g w = refl
+    both false f g w = refl
+
+module _ (S : Setting) (D : List ℕ) (ok : Sound S (length D)) where
+  open Setting S using (cut, addr)
+  open Cut (S .cut) using (H, M, N)
+
+  inj : (q r : Index) → In cut q → In cut r → at addr q ≡ at addr r → q ≡ r
+  inj q r iq ir e = let w = ok .places .apart (q .0) (q .1) (q .2) (r .0) (r .1) (r .2) iq ir e in λ k. (w .0 k, w .1 k, w .2 k)
+
+  -- a loop over indices that differ
+  line : (g : Index → ℕ → ℕ) (n : ℕ) (f : ℕ → Index) (E : List ℕ) → length E ≡ length D
+      → ((k : ℕ) → k < n → In cut (f k)) → ((k l : ℕ) → f k ≡ f l → k ≡ l)
+      → Changes (at addr) (In cut) (λ q. (k : ℕ) × (k < n) × (q ≡ f k)) g E (each n (λ k. put (g (f k)) (at addr (f k))) E)
+  line g n f E len inside differ =
+      each-changes (at addr) (In cut) inj g n (λ k. put (g (f k)) (at addr (f k))) (λ k q. q ≡ f k) E
+      (λ k b F l. put-changes (at addr) (In cut) inj g (f k) (inside k b) F (bound k (inside k b) F l))
+      (λ k l q e e′. differ k l (sym e ∙ e′))
+    where
+      bound : (k : ℕ) → In cut (f k) → (F : List ℕ) → length F ≡ length E → at addr (f k) < length F
+      bound k i F l = omega (arith, ok .places .inside (f k .0) (f k .1) (f k .2) i)
+
+  -- ---- render is what it should be, and the only list that is
+
+  pub render-shows : (f : ℕ → ℕ → ℕ → ℕ → ℕ) → Shows cut addr f D (render S f D)
+  unfolding render
+  render-shows f =
+      changes-iff (at addr) (In cut) (λ q i w. tt) (λ q i w. (q .0, i .0, (q .2, i .2, (q .1, i .1, refl))))
+      (each-changes (at addr) (In cut) inj (at f) H (λ h. each N (λ j. each M (λ i. put (f h i j) (addr h i j))))
+      (λ h q. (j : ℕ) × (j < N) × ((i : ℕ) × (i < M) × (q ≡ (h, i, j)))) D
+      (λ h bh E l.
+      each-changes (at addr) (In cut) inj (at f) N (λ j. each M (λ i. put (f h i j) (addr h i j)))
+      (λ j q. (i : ℕ) × (i < M) × (q ≡ (h, i, j))) E
+      (λ j bj F m. line (at f) M (λ i. (h, i, j)) F (m ∙ l) (λ i bi. (bh, bi, bj)) (λ i i′ e. ap (λ (q : Index). q .1) e))
+      (λ j j′ q w w′. ap (λ (q : Index). q .2) (sym (w .2) ∙ w′ .2)))
+      (λ h h′ q w w′. ap (λ (q : Index). q .0) (sym (w .2 .2) ∙ w′ .2 .2)))
+
+  pub shows-render : (f : ℕ → ℕ → ℕ → ℕ → ℕ) {E : List ℕ} → Shows cut addr f D E → E ≡ render S f D
+  shows-render f c = changes-unique (at addr) (In cut) (find cut addr) c (render-shows f)
+
+  pub closed-shows : (t : ℕ) → Shows cut addr (wordAt S t) D (closed S t D)
+  unfolding closed
+  closed-shows t = render-shows (wordAt S t)
+
+  shows-closed : (t : ℕ) {E : List ℕ} → Shows cut addr (wordAt S t) D E → E ≡ closed S t D
+  unfolding closed
+  shows-closed t c = shows-render (wordAt S t) c
+
+  -- ---- tiles
+
   -- the first t make the closed form
   first-closed : (t : ℕ) → t ≤ total cut → walk S (tilesFrom 0 t) D ≡ closed S t D
   first-closed t b =
-      shows-closed t (changes-same (place S) (In S)
+      shows-closed t (changes-same (at addr) (In cut)
       (λ q i p w.
       let r = reached cut (q .0) (q .1) (q .2) t in
       ap (λ (ps : List ℕ). after (λ p. addPanel S p (q .0) (q .1) (q .2)) ps w)
@@ -183,7 +216,7 @@ module _ (S : Setting) (D : List ℕ) (ok : Sound S (length D)) where
       ∙ ap (λ (n : ℕ). tabulate n (λ k. k)) (reached-count cut (q .0) (q .1) (q .2) (r .1)))
       ∙ first-words S (q .0) (q .1) (q .2) (r .0) w
       ∙ sym (reached-word S (q .0) (q .1) (q .2) (r .0) (r .1) w))
-      (walk-shows (tilesFrom 0 t) (tiles-below cut 0 t (omega arith))))
+      (walk-shows cut addr (addPanel S) D (ok .places) (tilesFrom 0 t) (tiles-below cut 0 t (omega arith))))
 
   pub walk-closed : (n t : ℕ) → t + n ≤ total cut → walk S (tilesFrom t n) (closed S t D) ≡ closed S (t + n) D
   walk-closed n t b = ap (walk S (tilesFrom t n)) (sym (first-closed t (omega arith))) ∙ walk-on cut (visit S) t n D ∙ first-closed (t + n) b
@@ -204,4 +237,4 @@ module _ (S : Setting) (D : List ℕ) (ok : Sound S (length D)) where
   -- all tiles together are the direct sum
   pub closed-total : closed S (total cut) D ≡ render S (direct S) D
   closed-total =
-      shows-render (direct S) (changes-same (place S) (In S) (λ q i p w. word-end (q .0) (q .1) (q .2) (i .0) (i .1) (i .2) w) (closed-shows (total cut)))
+      shows-render (direct S) (changes-same (at addr) (In cut) (λ q i p w. word-end (q .0) (q .1) (q .2) (i .0) (i .1) (i .2) w) (closed-shows (total cut)))

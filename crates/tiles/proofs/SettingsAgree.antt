@@ -17,7 +17,7 @@ use Rattle.tiles.proofs.Visits.{tiles-relate}
 pub record Agree (S S′ : Setting) : Type 0 where
   pub cut : S .cut ≡ S′ .cut
   pub alpha : S .alpha ≡ S′ .alpha
-  pub start : (h i j w : ℕ) → S .start h i j w ≡ S′ .start h i j w
+  pub start : (h i j w : ℕ) → h < S .cut .H → i < S .cut .M → j < S .cut .N → S .start h i j w ≡ S′ .start h i j w
   pub addr : (h i j : ℕ) → h < S .cut .H → i < S .cut .M → j < S .cut .N → S .addr h i j ≡ S′ .addr h i j
   pub term : (h i j k : ℕ) → h < S .cut .H → i < S .cut .M → j < S .cut .N → k < S .cut .K → S .term h i j k ≡ S′ .term h i j k
 
@@ -32,7 +32,7 @@ module _ {S S′ : Setting} (same : Agree S S′) where
       rw (
         ← same .cut,
         same .alpha,
-        same .start h i j w,
+        same .start h i j w bh bi bj,
         sumTo-ext (min ((p + 1) * S .cut .depth) (S .cut .K) - p * S .cut .depth) (λ k b. same .term h i j (p * S .cut .depth + k) bh bi bj (omega arith)),
       )
 

@@ -43,17 +43,25 @@ module _ {S S′ : Type 0} (R : S → S′ → Type 0) (G : Cut) (visit : ℕ �
   walk-relates [] keeps s s′ r = r
   walk-relates (n ∷ ns) keeps s s′ r = walk-relates ns (keeps .1) (visitTile G visit n s) (visitTile G visit′ n s′) (tile-relates n (keeps .0) s s′ r)
 
-  -- the tiles of the cut visit only output indices in range
+  -- a tile of the cut visits only output indices in range
+  tile-keeps : (n : ℕ) → n < total G → ((h i j : ℕ) → InSizes G h i j → Keeps (panelOf G n) h i j) → TileKeeps n
+  tile-keeps n l keeps a b x y =
+      keeps (batchOf G n) (rowOf G n * rows + a) (columnOf G n * cols + b) (tile-of G n l .batch, place-in M rows (rowOf G n) x, place-in N cols (columnOf G n) y)
+
   pub tiles-relate : ((p h i j : ℕ) → InSizes G h i j → Keeps p h i j) → (ns : List ℕ) → All (λ n. n < total G) ns
       → (s : S) (s′ : S′) → R s s′ → R (walkTiles G visit ns s) (walkTiles G visit′ ns s′)
-  tiles-relate keeps ns below =
-      walk-relates ns (all-imp (λ n l a b x y. keeps (panelOf G n) (batchOf G n) (rowOf G n * rows + a) (columnOf G n * cols + b)
-      (tile-of G n l .batch, place-in M rows (rowOf G n) x, place-in N cols (columnOf G n) y)) ns below)
+  tiles-relate keeps ns below = walk-relates ns (all-imp (λ n l. tile-keeps n l (keeps (panelOf G n))) ns below)
 
   -- any numbers, at any counts
   pub numbers-relate : ((p h i j : ℕ) → Keeps p h i j) → (ns : List ℕ) → (s : S) (s′ : S′) → R s s′ → R (walkTiles G visit ns s) (walkTiles G visit′ ns s′)
   numbers-relate keeps ns =
       walk-relates ns (all-of (λ n a b x y. keeps (panelOf G n) (batchOf G n) (rowOf G n * rows + a) (columnOf G n * cols + b)) ns)
+
+-- visits that do the same at the panel of a tile
+pub visit-same : {S : Type 0} (G : Cut) (u v : ℕ → ℕ → ℕ → ℕ → S → S) (n : ℕ) (s : S)
+    → ((h i j : ℕ) → InSizes G h i j → (s : S) → u (panelOf G n) h i j s ≡ v (panelOf G n) h i j s) → n < total G → visitTile G u n s ≡ visitTile G v n s
+visit-same G u v n s same below =
+    tile-relates _≡_ G u v n (tile-keeps _≡_ G u v n below (λ h i j k s s′ e. ap (u (panelOf G n) h i j) e ∙ same h i j k s′)) s s refl
 
 -- ---- one state: the other is nothing
 

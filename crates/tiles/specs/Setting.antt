@@ -19,10 +19,11 @@ pub record Setting : Type 0 where
   pub alpha : ℕ
   pub start : ℕ → ℕ → ℕ → ℕ → ℕ  -- what panel 0 starts from at h, i, j, given the old word
 
--- a cut, where each output index lies, A's entry at a batch, a row and a depth count, B's at a batch, a column and a depth count, and the factors: a term is
--- the product of the two entries, and panel 0 starts from beta × the old word
-abbrev pub settingBy : Cut → (ℕ → ℕ → ℕ → ℕ) → (ℕ → ℕ → ℕ → ℕ) → (ℕ → ℕ → ℕ → ℕ) → ℕ → ℕ → Setting
-settingBy G addr a b alpha beta = record { cut = G; addr = addr; term = λ h i j k. a h i k * b h j k; alpha = alpha; start = λ h i j old. beta * old }
+-- a cut, where each output index lies, A's entry at a batch, a row and a depth count, B's at a batch, a column and a depth count, what the sum of an output
+-- index starts from, given the old word, and the factors: a term is the product of the two entries, and panel 0 starts from beta × what the sum starts from
+abbrev pub settingBy : Cut → (ℕ → ℕ → ℕ → ℕ) → (ℕ → ℕ → ℕ → ℕ) → (ℕ → ℕ → ℕ → ℕ) → (ℕ → ℕ → ℕ → ℕ → ℕ) → ℕ → ℕ → Setting
+settingBy G addr a b from alpha beta =
+    record { cut = G; addr = addr; term = λ h i j k. a h i k * b h j k; alpha = alpha; start = λ h i j old. beta * from h i j old }
 
 module _ (S : Setting) where
   open Setting S using (cut, addr, term, alpha, start)

@@ -14,10 +14,12 @@ use tiles::grid::Grid;
 pub fn run_tiles(
     p: Plan,
     g: Grid,
+    named: bool,
     alpha: u32,
     beta: u32,
     a: &[u32],
     b: &[u32],
+    c: &[u32],
     d: &mut [u32],
     work: &mut [u32],
     done: u64,
@@ -25,17 +27,17 @@ pub fn run_tiles(
 ) -> u64
     requires { ⌜ GridOf p g
         × (done + count ≤ total (cutIn g))
-        × Clear p (cutIn g) (length (now a)) (length (now b)) (length (now d))
+        × Clear p (cutIn g) named (length (now a)) (length (now b)) (length (now c)) (length (now d))
         × (g .sizes .rows * g .sizes .depth + g .sizes .cols * g .sizes .depth ≤ length (now work)) ⌝ }
     ensures { λ r. ⌜ (r ≡ done + length (tilesFrom done count))
         × (now (d .exit)
-        ≡ walk (planSetting p (cutIn g) alpha beta (now (a .entry)) (now (b .entry))) (tilesFrom done count) (now (d .entry)))
+        ≡ walk (planSetting p (cutIn g) named alpha beta (now (a .entry)) (now (b .entry)) (now (c .entry))) (tilesFrom done count) (now (d .entry)))
         × (now (work .exit) ≡ packedLast (cutIn g) (readIn p (now (a .entry)) (now (b .entry))) (tilesFrom done count) (now (work .entry))) ⌝ }
 {
     let end = done + count;
     let mut t = done;
     while t < end {
-        run_tile(p, g, alpha, beta, a, b, d, work, t);
+        run_tile(p, g, named, alpha, beta, a, b, c, d, work, t);
         t += 1;
     }
     t

@@ -3,10 +3,11 @@
 use mathlib.Core.Path.{_≡_, refl, ap, sym, _∙_, subst, subst⁻¹}
 use mathlib.Core.Bool.{Bool, true, false, not, cond, _||_, true≢false, or-true, or-assoc}
 use mathlib.Core.List.{List, [], _∷_, _++_, map, List·Memᴰ, List·Memᴰ·head, List·Memᴰ·tail}
-use Prim.Native.Nat.{ℕ, _+_, _*_}
+use Prim.Native.Nat.{ℕ, _+_, _*_, _≤_}
 use native.Mathlib.Nat.{add-zero}
 use native.Mathlib.Omega.{arith}
 use lib.Dec.{T, eqb, eqb→eq, eqb-refl}
+use lib.ListN.{length}
 use Rattle.words.specs.Sums.{sumOf, All}
 use Rattle.words.specs.Lists.{member, keep, cons-if, distinct}
 
@@ -196,3 +197,16 @@ member-once c xs = go (member c xs) refl (member c (distinct xs)) refl
 -- what holds of all numbers of a list holds of them taken once
 pub all-once : (P : ℕ → Type 0) (xs : List ℕ) → All P xs → All P (distinct xs)
 all-once P xs a = all-imp (λ c. all-member P c xs a) (distinct xs) (distinct-members xs)
+
+-- what is kept, and what is different, is no longer than the list
+keep-short : (p : ℕ → Bool) (xs : List ℕ) → length (keep p xs) ≤ length xs
+keep-short p [] = omega arith
+keep-short p (x ∷ xs) = go (p x) (keep-short p xs)
+  where
+    go : (b : Bool) → length (keep p xs) ≤ length xs → length (cons-if b x (keep p xs)) ≤ length (x ∷ xs)
+    go true h = omega arith
+    go false h = omega arith
+
+pub distinct-short : (xs : List ℕ) → length (distinct xs) ≤ length xs
+distinct-short [] = omega arith
+distinct-short (x ∷ xs) = omega (arith, keep-short (λ d. not (eqb x d)) (distinct xs), distinct-short xs)

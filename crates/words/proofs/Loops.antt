@@ -6,6 +6,7 @@ use mathlib.Core.Logic.{_≢_}
 use Prim.Native.Nat.{ℕ, zero, suc, _+_, _<_}
 use native.Mathlib.Nat.{add-zero, add-suc}
 use native.Mathlib.Decide.{ℕ-discrete}
+use native.Mathlib.Numerals.{add-one}
 use native.Mathlib.Omega.{arith}
 use Rattle.words.specs.Loops.{each}
 
@@ -23,6 +24,11 @@ module _ {S : Type 0} where
   -- turns that do the same
   pub each-ext : {f g : ℕ → S → S} (n : ℕ) → ((k : ℕ) → k < n → (s : S) → f k s ≡ g k s) → (s : S) → each n f s ≡ each n g s
   each-ext {f} {g} n same s = each-relates _≡_ f g n (λ k h s s′ e. ap (f k) e ∙ same k h s′) s s refl
+
+  -- one turn more
+  pub each-next : (body : ℕ → S → S) (n : ℕ) (s₀ : S) {s s′ : S} → s ≡ each n body s₀ → s′ ≡ body n s → s′ ≡ each (n + 1) body s₀
+  unfolding each
+  each-next body n s₀ i j = rw add-one (j ∙ ap (body n) i)
 
   -- a loop in two parts
   pub each-add : (m n : ℕ) (body : ℕ → S → S) (s : S) → each (m + n) body s ≡ each n (λ k. body (m + k)) (each m body s)

@@ -37,6 +37,15 @@ module _ {Ix : Type 0} (at : Ix → ℕ) (In : Ix → Type 0) where
       → Changes P f D E → Changes P g D E
   changes-same {D = D} same c = record { len = c .len; hit = λ q k p. c .hit q k p ∙ same q k p (getD D (at q) 0); miss = c .miss }
 
+  -- one after the other, at the same indices
+  pub changes-again : {P : Ix → Type 0} {f g : Ix → ℕ → ℕ} {D E F : List ℕ} → Changes P f D E → Changes P g E F → Changes P (λ q w. g q (f q w)) D F
+  changes-again {g = g} c d =
+      record {
+        len = d .len ∙ c .len;
+        hit = λ q k p. d .hit q k p ∙ ap (g q) (c .hit q k p);
+        miss = λ x off. d .miss x off ∙ c .miss x off;
+      }
+
   -- the list is determined
   pub changes-unique : {P : Ix → Type 0} {g : Ix → ℕ → ℕ} {D E F : List ℕ} → ((x : ℕ) → Dec ((q : Ix) × In q × P q × (at q ≡ x)))
       → Changes P g D E → Changes P g D F → E ≡ F

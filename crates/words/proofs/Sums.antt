@@ -83,6 +83,11 @@ all-every p [] h = tt
 all-every p (x ∷ xs) h = and-join (p x) (every p xs) (h .0) (all-every p xs (h .1))
 
 -- a test that passes at every member passes at every member from a place on
+-- tests that agree at every element agree
+pub every-same : {X : Type 0} (p q : X → Bool) (xs : List X) → All (λ x. p x ≡ q x) xs → every p xs ≡ every q xs
+every-same p q [] h = refl
+every-same p q (x ∷ xs) h = rw (h .0, every-same p q xs (h .1))
+
 pub every-drop : {X : Type 0} (p : X → Bool) (i : ℕ) (xs : List X) → T (every p xs) → T (every p (drop i xs))
 every-drop p zero xs t = t
 every-drop p (suc i) [] t = t

@@ -10,7 +10,7 @@ use crate::common::tile_call::{ask_lent, run_lent};
 
 /// Lends a contraction. Its words stand at any place modulo 16 bytes.
 pub fn lend(case: &Case, rng: &mut Rng) -> Lent {
-    Lent::shifted(case, [0; 3].map(|_| rng.below(4)))
+    Lent::shifted(case, [0; 4].map(|_| rng.below(4)))
 }
 
 pub fn contract(lent: &mut Lent, case: &Case) -> Outcome {

@@ -17,7 +17,7 @@ pub struct List<'a> {
     rng: &'a mut Rng,
     figures: &'a mut Figures,
     lent: Lent,
-    /// What questions 1 to 9 say of the contraction.
+    /// What questions 1 to 9, and 30, say of the contraction.
     first_nine: u32,
     /// None where questions 1 to 10 refuse.
     pub model: Option<Model>,

@@ -1,8 +1,8 @@
-//! A random contraction, small enough for a few microseconds. One in three is damaged.
+//! A random contraction, small enough for a few microseconds. One in three names C, and one in three is damaged.
 
 use crate::common::case::{Case, Tensor};
 use crate::common::job_model::terms;
-use crate::common::make::{accepted, spoil, Kind};
+use crate::common::make::{accepted, accepted_with_c, spoil, Kind};
 use crate::common::questions::{first_no, product};
 use crate::common::rng::Rng;
 
@@ -23,7 +23,8 @@ const KINDS: [Kind; 5] = [
 /// A damage that leaves a contraction with too many terms is taken back.
 pub fn contraction(rng: &mut Rng) -> Case {
     let kind = rng.pick(&[0, 0, 0, 1, 1, 1, 2, 2, 2, 3, 3, 3, 4]);
-    let sound = accepted(rng, &KINDS[kind]);
+    let make = if rng.once_in(3) { accepted_with_c } else { accepted };
+    let sound = make(rng, &KINDS[kind]);
     let mut damaged = sound.clone();
     (0..rng.pick(&[0, 0, 0, 0, 1, 2])).for_each(|_| damage(rng, &mut damaged));
     if terms(&damaged) > u128::from(TERMS) && first_no(&damaged) == 0 {
@@ -35,7 +36,7 @@ pub fn contraction(rng: &mut Rng) -> Case {
 
 /// An edit that is meant for one question, or any value at any place.
 fn damage(rng: &mut Rng, case: &mut Case) {
-    let which = rng.below(3);
+    let which = rng.below(if case.c.is_some() { 4 } else { 3 });
     match rng.below(20) {
         0 => fill_product(rng, case, which),
         1..=6 => set_anything(rng, case.tensor_mut(which)),
@@ -44,13 +45,16 @@ fn damage(rng: &mut Rng, case: &mut Case) {
 }
 
 /// Two more labels, so that the product of all extents is at the limit of question 7 or just over it. Question 8
-/// refuses where 7 does not, unless the tensor has no entries.
+/// refuses where 7 does not, unless the tensor has no entries. C and D get them together.
 fn fill_product(rng: &mut Rng, case: &mut Case, which: usize) {
     let room = product(case).map_or(0, |product| ((1 << 30) / product) as u32);
     let first = if room < 16_384 { 1 } else { 16_384 };
-    let t = case.tensor_mut(which);
-    t.push(b'y', first, 1);
-    t.push(b'z', room / first + rng.pick(&[0, 0, 1]), 1);
+    let second = room / first + rng.pick(&[0, 0, 1]);
+    let tensors: &[usize] = if which >= 2 && case.c.is_some() { &[2, 3] } else { &[which] };
+    for t in tensors {
+        case.tensor_mut(*t).push(b'y', first, 1);
+        case.tensor_mut(*t).push(b'z', second, 1);
+    }
 }
 
 fn set_anything(rng: &mut Rng, t: &mut Tensor) {

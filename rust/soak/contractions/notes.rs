@@ -2,7 +2,7 @@
 
 use crate::common::case::{Case, Tensor};
 use crate::common::groups::{Cut, Group, Groups};
-use crate::common::notes::{note_factors, note_labels, note_strides};
+use crate::common::notes::{note_c, note_factors, note_labels, note_strides};
 use crate::common::notes_empty::note_empty;
 use crate::common::seen::Seen;
 
@@ -11,7 +11,9 @@ pub fn note_contraction(seen: &mut Seen, case: &Case) {
     note_labels(seen, case);
     note_strides(seen, case);
     note_empty(seen, case);
-    for (name, t) in ["A", "B", "D"].iter().zip(case.tensors()) {
+    seen.note("C", case.c.is_some());
+    note_c(seen, case);
+    for (name, t) in case.named() {
         seen.note(&format!("base above 0 in {name}"), t.base > 0);
     }
 }
@@ -37,12 +39,16 @@ pub fn note_cut(seen: &mut Seen, case: &Case, cut: &Cut) {
 
 fn note_blocks(seen: &mut Seen, case: &Case, cut: &Cut) {
     let groups = Groups::of(case);
-    let blocks = [
+    let mut blocks = vec![
         ("rows of A", &case.a, &groups.row, cut.tile_rows),
         ("rows of D", &case.d, &groups.row, cut.tile_rows),
         ("columns of B", &case.b, &groups.column, cut.tile_cols),
         ("columns of D", &case.d, &groups.column, cut.tile_cols),
     ];
+    if let Some(c) = &case.c {
+        blocks.push(("rows of C", c, &groups.row, cut.tile_rows));
+        blocks.push(("columns of C", c, &groups.column, cut.tile_cols));
+    }
     for (name, t, group, width) in blocks {
         let steps = steps(t, group, width);
         seen.note(&format!("scattered block, {name}"), steps.contains(&None));

@@ -7,18 +7,40 @@ use crate::common::case::Outcome;
 use crate::common::groups::Cut;
 use crate::common::request::{work_needed, Ran, Request};
 use crate::common::seen::Seen;
-use std::collections::BTreeSet;
+use std::collections::{BTreeMap, BTreeSet};
 pub use tables::text;
 
-/// How often each number was the answer, 0 where the call was accepted.
-pub type Answers = [usize; 14];
+/// How often each number was the answer.
+#[derive(Default)]
+pub struct Answers(BTreeMap<u32, usize>);
 
-/// The numbers that each call can answer.
-pub const PLAIN: [usize; 10] = [0, 1, 2, 3, 4, 5, 6, 7, 8, 9];
-pub const TILE: [usize; 13] = [0, 1, 2, 3, 4, 5, 6, 7, 8, 9, 10, 11, 12];
-pub const STATE: [usize; 13] = [0, 1, 2, 3, 4, 5, 6, 7, 8, 9, 10, 12, 13];
+/// The numbers that the calls can answer, in the order of the questions; 0 where a call is accepted.
+pub const ALL: [u32; 15] = [0, 1, 2, 3, 4, 5, 6, 30, 7, 8, 9, 10, 11, 12, 13];
+/// Those that each call can answer.
+pub const PLAIN: [u32; 11] = [0, 1, 2, 3, 4, 5, 6, 30, 7, 8, 9];
+pub const TILE: [u32; 14] = [0, 1, 2, 3, 4, 5, 6, 30, 7, 8, 9, 10, 11, 12];
+pub const STATE: [u32; 14] = [0, 1, 2, 3, 4, 5, 6, 30, 7, 8, 9, 10, 12, 13];
 /// The numbers by which the program can refuse a file.
-pub const FILE: [usize; 14] = [1, 3, 4, 5, 6, 7, 8, 9, 10, 12, 20, 21, 22, 23];
+pub const FILE: [u32; 15] = [1, 3, 4, 5, 6, 30, 7, 8, 9, 10, 12, 20, 21, 22, 23];
+
+impl Answers {
+    pub fn count(&self, number: u32) -> usize {
+        self.0.get(&number).copied().unwrap_or(0)
+    }
+
+    fn add(&mut self, number: u32, more: usize) {
+        *self.0.entry(number).or_default() += more;
+    }
+
+    fn add_all(&mut self, other: &Self) {
+        other.0.iter().for_each(|(number, more)| self.add(*number, *more));
+    }
+
+    /// Which of these numbers were no answer.
+    fn missing<'a>(&'a self, numbers: &'a [u32]) -> impl Iterator<Item = u32> + 'a {
+        numbers.iter().copied().filter(|number| self.count(*number) == 0)
+    }
+}
 
 #[derive(Default)]
 pub struct Figures {
@@ -43,13 +65,13 @@ pub struct Figures {
 
 impl Figures {
     pub fn note_plain(&mut self, found: &Outcome) {
-        self.plain[found.answer as usize] += 1;
+        self.plain.add(found.answer, 1);
         self.calls.add("words of D compared", found.words.len());
     }
 
     /// The answer to a state question. A contraction that is refused is not cut.
     pub fn note_state(&mut self, found: Result<u32, u32>, cut: Option<&Cut>) {
-        self.state[found.err().unwrap_or(0) as usize] += 1;
+        self.state.add(found.err().unwrap_or(0), 1);
         for (number, name) in ["old", "part", "final"].iter().enumerate() {
             self.calls.note(&format!("states that were {name}"), found == Ok(number as u32));
         }
@@ -61,7 +83,7 @@ impl Figures {
 
     pub fn note_run(&mut self, r: &Request, found: &Ran, total: u64) {
         let (calls, needed) = (&mut self.calls, work_needed(r.sizes));
-        self.tile[found.answer as usize] += 1;
+        self.tile.add(found.answer, 1);
         calls.add("words of D compared", found.words.len());
         calls.add("words of work compared", found.work.len());
         calls.note("tile calls whose work slice was one word too short", r.work.len() as u128 + 1 == needed);
@@ -70,6 +92,7 @@ impl Figures {
         }
         let left = total - r.done;
         calls.add("tiles run", (found.done - r.done) as usize);
+        calls.note("tile calls with C", r.case.c.is_some());
         calls.note("tile calls with budget 0", r.budget == 0);
         calls.note("tile calls with budget 1", r.budget == 1);
         calls.note("tile calls with a budget below what was left", (2..left).contains(&r.budget));
@@ -84,10 +107,9 @@ impl Figures {
     }
 
     pub fn add(&mut self, other: &Self) {
-        for (own, more) in [(&mut self.plain, &other.plain), (&mut self.tile, &other.tile)] {
-            add_answers(own, more);
-        }
-        add_answers(&mut self.state, &other.state);
+        self.plain.add_all(&other.plain);
+        self.tile.add_all(&other.tile);
+        self.state.add_all(&other.state);
         add_seen(&mut self.calls, &other.calls);
         add_seen(&mut self.features, &other.features);
         add_seen(&mut self.cuts, &other.cuts);
@@ -99,9 +121,8 @@ impl Figures {
 
     /// The classes that have to be filled and are not.
     pub fn empty(&self) -> Vec<String> {
-        let by_number = |call: &str, answers: &Answers, numbers: &[usize]| -> Vec<String> {
-            let empty = numbers.iter().filter(|number| answers[**number] == 0);
-            empty.map(|number| format!("{call} answered by {number}")).collect()
+        let by_number = |call: &str, answers: &Answers, numbers: &[u32]| -> Vec<String> {
+            answers.missing(numbers).map(|number| format!("{call} answered by {number}")).collect()
         };
         let seen = [&self.calls, &self.features, &self.cuts, &self.damages, &self.texts];
         let by_name = seen.into_iter().flat_map(Seen::counts).filter(|(_, count)| *count == 0);
@@ -112,10 +133,6 @@ impl Figures {
         ];
         answers.into_iter().flatten().chain(by_name.map(|(name, _)| name.to_string())).collect()
     }
-}
-
-fn add_answers(own: &mut Answers, more: &Answers) {
-    own.iter_mut().zip(more).for_each(|(own, more)| *own += more);
 }
 
 fn add_seen(own: &mut Seen, more: &Seen) {

@@ -1,8 +1,8 @@
 //! The figures of a run as a text with tables.
 
-use super::{Answers, Figures, FILE, PLAIN, STATE, TILE};
+use super::{Answers, Figures, ALL, FILE, PLAIN, STATE, TILE};
 use crate::common::seen::Seen;
-use crate::jobs::{Files, ACCEPTED, MARKED};
+use crate::jobs::{Files, ACCEPTED, MARKED, WITH_C};
 use crate::settings::Settings;
 use crate::workers::THREADS;
 use std::collections::BTreeMap;
@@ -10,6 +10,8 @@ use std::time::Duration;
 
 /// What stands where there can be no number.
 const NONE: &str = "–";
+
+const TENSORS: [&str; 4] = ["A", "B", "C", "D"];
 
 pub fn text(settings: &Settings, files: &Files, figures: &Figures, time: Duration) -> String {
     let (count, mutants) = (grouped(settings.count as usize), grouped(files.mutants.len()));
@@ -54,35 +56,35 @@ fn table_of<'a>(head: [&str; 2], counts: impl Iterator<Item = (&'a str, usize)>)
 
 fn answers(figures: &Figures) -> String {
     let head = ["answer", "plain calls", "tile calls", "state questions"].map(str::to_string).to_vec();
-    let cell = |answers: &Answers, numbers: &[usize], number: usize| match numbers.contains(&number) {
-        true => grouped(answers[number]),
+    let cell = |answers: &Answers, numbers: &[u32], number: u32| match numbers.contains(&number) {
+        true => grouped(answers.count(number)),
         false => NONE.to_string(),
     };
-    let row = |number: usize| {
+    let row = |number: u32| {
         let name = if number == 0 { "accepted".to_string() } else { format!("refused by {number}") };
         let plain = cell(&figures.plain, &PLAIN, number);
         vec![name, plain, cell(&figures.tile, &TILE, number), cell(&figures.state, &STATE, number)]
     };
-    table(&[head].into_iter().chain((0..14).map(row)).collect::<Vec<_>>())
+    table(&[head].into_iter().chain(ALL.map(row)).collect::<Vec<_>>())
 }
 
 /// The tensor that a feature is of, and what is left of its name.
 fn split(name: &str) -> Option<(&str, usize)> {
-    let ends = ["A", "B", "D"].map(|tensor| [format!(" in {tensor}"), format!(" of {tensor}")]);
+    let ends = TENSORS.map(|tensor| [format!(" in {tensor}"), format!(" of {tensor}")]);
     let of_tensor = |which: usize| ends[which].iter().find_map(|end| name.strip_suffix(end.as_str()));
-    (0..3).find_map(|which| Some((of_tensor(which)?, which)))
+    (0..TENSORS.len()).find_map(|which| Some((of_tensor(which)?, which)))
 }
 
 /// A table of what has to do with one tensor, and one of the rest.
 fn tables_of(head: &str, seen: &Seen) -> Vec<String> {
-    let mut rows: BTreeMap<&str, [String; 3]> = BTreeMap::new();
+    let mut rows: BTreeMap<&str, [String; 4]> = BTreeMap::new();
     for (name, count) in seen.counts() {
         if let Some((feature, which)) = split(name) {
-            rows.entry(feature).or_insert([NONE; 3].map(str::to_string))[which] = grouped(count);
+            rows.entry(feature).or_insert([NONE; 4].map(str::to_string))[which] = grouped(count);
         }
     }
     let rows = rows.into_iter().map(|(name, cells)| [vec![name.to_string()], cells.to_vec()].concat());
-    let first = [head, "in A", "in B", "in D"].map(str::to_string).to_vec();
+    let first = [vec![head.to_string()], TENSORS.map(|tensor| format!("in {tensor}")).to_vec()].concat();
     let of_tensors = table(&[first].into_iter().chain(rows).collect::<Vec<_>>());
     vec![of_tensors, table_of([head, "count"], seen.counts().filter(|(name, _)| split(name).is_none()))]
 }
@@ -98,7 +100,8 @@ fn damages(files: &Files, figures: &Figures) -> String {
 fn texts(figures: &Figures) -> String {
     let refused = FILE.iter().map(|number| format!("refused {number}"));
     let of_names = |names: [&str; 4]| names.map(str::to_string);
-    let names: Vec<String> = of_names(ACCEPTED).into_iter().chain(refused).chain(of_names(MARKED)).collect();
+    let accepted = of_names(ACCEPTED).into_iter().chain(of_names(WITH_C));
+    let names: Vec<String> = accepted.chain(refused).chain(of_names(MARKED)).collect();
     let counts = names.iter().map(|name| (name.as_str(), figures.texts.count(name)));
     table_of(["answers of the program", "count"], counts)
 }

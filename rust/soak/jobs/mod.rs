@@ -19,6 +19,14 @@ use mutants::{damaged, damaged_at_random, undamaged, Damage, Mutant};
 pub const ACCEPTED: [&str; 4] =
     ["accepted", "accepted with sums over no values", "accepted with no tiles", "accepted with no words in D"];
 
+/// The same for the files that name C.
+pub const WITH_C: [&str; 4] = [
+    "accepted with C",
+    "accepted with C and sums over no values",
+    "accepted with C and no tiles",
+    "accepted with C and tiles done before",
+];
+
 /// The classes of words that are printed.
 pub const MARKED: [&str; 4] = ["words marked o", "words marked p", "words marked f", "words marked -"];
 
@@ -55,7 +63,7 @@ impl Files {
 pub fn expect_all(figures: &mut Figures) {
     Damage::NAMES.iter().for_each(|name| figures.damages.add(name, 0));
     FILE.iter().for_each(|number| figures.texts.add(&format!("refused {number}"), 0));
-    ACCEPTED.iter().chain(&MARKED).for_each(|name| figures.texts.add(name, 0));
+    ACCEPTED.iter().chain(&WITH_C).chain(&MARKED).for_each(|name| figures.texts.add(name, 0));
 }
 
 /// Runs the program on a file, at standard input or by its name, and compares all that it prints with the model.
@@ -94,6 +102,9 @@ fn note(mutant: &Mutant, text: &str, figures: &mut Figures) {
 
 fn note_accepted(job: &Job, texts: &mut Seen) {
     let cut = Cut::of(&Groups::of(&job.case), job.request().sizes);
-    let classes = [true, cut.depth == 0 && cut.total() > 0, cut.total() == 0, job.case.d.words.is_empty()];
+    let (no_terms, no_tiles) = (cut.depth == 0 && cut.total() > 0, cut.total() == 0);
+    let classes = [true, no_terms, no_tiles, job.case.d.words.is_empty()];
     ACCEPTED.iter().zip(classes).for_each(|(name, is_there)| texts.note(name, is_there));
+    let with_c = [true, no_terms, no_tiles, job.done > 0].map(|is_there| is_there && job.case.c.is_some());
+    WITH_C.iter().zip(with_c).for_each(|(name, is_there)| texts.note(name, is_there));
 }

@@ -8,7 +8,7 @@ use nezgrak::TileSizes;
 
 /// Alpha 1 and beta 0.
 fn plain(a: Tensor, b: Tensor, d: Tensor) -> Case {
-    Case { a, b, d, alpha: 1, beta: 0 }
+    Case { a, b, c: None, d, alpha: 1, beta: 0 }
 }
 
 /// A D of two labels over this many words, to be set to A's and B's only word, 6.
@@ -104,7 +104,7 @@ fn example() -> Case {
     let a = Tensor::new("ik", &[2, 3], &[1, 2], 0, &[1, 2, 3, 4, 5, 6]);
     let b = Tensor::new("kj", &[3, 2], &[1, 3], 0, &[1, 0, 2, 0, 1, 1]);
     let d = Tensor::new("ij", &[2, 2], &[1, 2], 0, &[100, 200, 300, 400]);
-    Case { a, b, d, alpha: 1, beta: 2 }
+    Case { a, b, c: None, d, alpha: 1, beta: 2 }
 }
 
 #[test]

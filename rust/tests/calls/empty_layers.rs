@@ -8,7 +8,7 @@ const LIMIT: u32 = 16_777_216;
 
 /// Alpha 5 and beta 3.
 fn contraction(a: Tensor, b: Tensor, d: Tensor) -> Case {
-    Case { a, b, d, alpha: 5, beta: 3 }
+    Case { a, b, c: None, d, alpha: 5, beta: 3 }
 }
 
 fn scalars() -> Case {

@@ -12,7 +12,7 @@ use nezgrak::{Contraction, OutputIndex, Progress, Refusal, State, TileSizes};
 fn no_terms() -> Case {
     let a = Tensor::new("ik", &[2, 0], &[1, 2], 0, &[]);
     let b = Tensor::new("kj", &[0, 3], &[1, 0], 0, &[]);
-    Case { a, b, d: Tensor::new("ij", &[2, 3], &[1, 2], 0, &[10, 20, 30, 40, 50, 60]), alpha: 7, beta: 3 }
+    Case { a, b, c: None, d: Tensor::new("ij", &[2, 3], &[1, 2], 0, &[10, 20, 30, 40, 50, 60]), alpha: 7, beta: 3 }
 }
 
 /// The same with four terms in each sum and a label of extent 0 that makes this group empty.
@@ -183,7 +183,7 @@ fn large_extents_beside_an_extent_0() {
         (large(), large(), one(), 1),
     ];
     for (a, b, d, total) in cases {
-        let case = Case { a, b, d, alpha: 1, beta: 2 };
+        let case = Case { a, b, c: None, d, alpha: 1, beta: 2 };
         let ran = check_run(&Request { budget: u64::MAX, ..request(case, SIZES) });
         assert_eq!((ran.answer, ran.done, ran.complete), (0, total, 1));
         assert_eq!(ran.words, if total == 0 { [5] } else { [10] });

@@ -1,13 +1,17 @@
-//! Larger contractions against the model, each with packed tensors and random words: by the plain call, and by tile
-//! calls with tiles of three sizes.
+//! Larger contractions against the model, each with packed tensors and random words, without C and with it: by the plain
+//! call, and by tile calls with tiles of three sizes.
 
 use crate::common::call::check;
 use crate::common::case::{same_words, Case};
 use crate::common::cutting::run_in;
-use crate::common::formula::{contraction, reverse};
+use crate::common::formula::{contraction, reverse, with_c_too};
 use nezgrak::TileSizes;
 
 fn accepts(case: &Case) {
+    with_c_too(case).iter().for_each(accepts_as_it_is);
+}
+
+fn accepts_as_it_is(case: &Case) {
     let plain = check(case);
     assert_eq!(plain.answer, 0);
     for (rows, cols, depth, calls) in [(64, 64, 128, 1), (33, 17, 40, 5), (7, 11, 13, 10)] {

@@ -7,7 +7,7 @@ const LIMIT: usize = 16_777_216;
 
 /// D's only word becomes 2 × 3, until a tensor is changed.
 fn six() -> Case {
-    Case { a: Tensor::scalar(2), b: Tensor::scalar(3), d: Tensor::scalar(9), alpha: 1, beta: 0 }
+    Case { a: Tensor::scalar(2), b: Tensor::scalar(3), c: None, d: Tensor::scalar(9), alpha: 1, beta: 0 }
 }
 
 fn with(which: usize, change: impl FnOnce(&mut Tensor)) -> Case {

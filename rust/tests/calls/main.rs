@@ -16,3 +16,7 @@ mod tile_lists;
 mod tile_refusals;
 mod tile_shapes;
 mod vectors;
+mod with_c;
+mod with_c_limits;
+mod with_c_random;
+mod with_c_refusals;

@@ -12,7 +12,7 @@ fn broken(mut case: Case, number: u32, which: usize, edit: usize) -> Case {
 
 /// Every way to break a question: which tensor, and by which edit.
 fn ways(number: u32) -> impl Iterator<Item = (usize, usize)> {
-    tensors_of(number).flat_map(move |which| (0..edits(number).len()).map(move |edit| (which, edit)))
+    tensors_of(number).iter().flat_map(move |which| (0..edits(number).len()).map(move |edit| (*which, edit)))
 }
 
 #[test]

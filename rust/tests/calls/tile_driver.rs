@@ -1,24 +1,25 @@
 //! The driver over tile calls: what it yields, what it lets be read in between, and what it refuses.
 
-use crate::common::broken::{sound_request, ways};
+use crate::common::broken::sound_request;
 use crate::common::case::Case;
 use crate::common::groups::{Cut, Groups};
-use crate::common::lent::layout_of;
-use crate::common::make::{accepted, Kind};
+use crate::common::lent::contraction_of;
+use crate::common::make::{accepted_of_both_forms, Kind};
 use crate::common::panels::Model;
+use crate::common::refusing::{WITHOUT_C, WITH_C};
 use crate::common::request::Request;
 use crate::common::rng::Rng;
 use crate::common::seen::Seen;
-use nezgrak::{Contraction, OutputIndex, Progress, Refusal, State, Tensor, TileSizes, Tiles};
+use nezgrak::{OutputIndex, Progress, Refusal, State, TileSizes, Tiles};
 
 const KIND: Kind = Kind { labels: 6, extents: &[1, 2, 3, 5, 8], terms: 800, aligned: false };
 
-/// Calls with the driver of a request, which takes the words from its slices.
+/// Calls with the driver of a request, which takes the words from its slices and leaves its own in D's.
 fn with_tiles<T>(r: &mut Request, use_it: impl FnOnce(Tiles<'_>) -> T) -> Result<T, Refusal> {
-    let Request { case: Case { a, b, d, alpha, beta }, sizes, work, .. } = r;
-    let [a, b] = [a, b].map(|t| Tensor::new(layout_of(t), &t.words));
-    let contraction = Contraction::new(a, b, layout_of(d)).with_alpha(*alpha).with_beta(*beta);
-    contraction.tiles(&mut d.words, *sizes, work).map(use_it)
+    let mut words = r.case.d.words.clone();
+    let result = contraction_of(&r.case).tiles(&mut words, r.sizes, &mut r.work).map(use_it);
+    r.case.d.words = words;
+    result
 }
 
 fn seeded(seed: u64) -> Rng {
@@ -27,7 +28,7 @@ fn seeded(seed: u64) -> Rng {
 }
 
 fn random_request(rng: &mut Rng) -> Request {
-    let case = accepted(rng, &KIND);
+    let case = accepted_of_both_forms(rng, &KIND);
     let sizes =
         TileSizes { rows: rng.pick(&[1, 2, 3, 64]), cols: rng.pick(&[1, 2, 64]), depth: rng.pick(&[1, 2, 5, 128]) };
     let index = OutputIndex::new(0, 0, 0);
@@ -38,7 +39,7 @@ fn random_request(rng: &mut Rng) -> Request {
 #[test]
 fn the_total_is_that_of_the_rules() {
     let (mut rng, mut seen) = (seeded(0xd21e_0001), Seen::default());
-    for _ in 0..1_000 {
+    for _ in 0..2_000 {
         let mut r = random_request(&mut rng);
         let before = r.clone();
         let found = with_tiles(&mut r, |tiles| (tiles.done(), tiles.total(), tiles.is_complete()));
@@ -74,7 +75,7 @@ fn follow(tiles: &mut Tiles<'_>, model: &Model, old: &[u32], budget: u64) {
 #[test]
 fn steps() {
     let (mut rng, mut seen) = (seeded(0xd21e_0002), Seen::default());
-    for _ in 0..300 {
+    for _ in 0..600 {
         let mut r = random_request(&mut rng);
         let (model, old) = (Model::of(&r.case, r.sizes), r.case.d.words.clone());
         note_cut(&mut seen, &model.cut);
@@ -92,7 +93,7 @@ fn steps() {
 #[test]
 fn as_an_iterator() {
     let (mut rng, mut seen) = (seeded(0xd21e_0003), Seen::default());
-    for _ in 0..300 {
+    for _ in 0..600 {
         let mut r = random_request(&mut rng);
         let (plain, cut) = (plain(&r.case), Cut::of(&Groups::of(&r.case), r.sizes));
         note_cut(&mut seen, &cut);
@@ -113,10 +114,8 @@ fn as_an_iterator() {
 }
 
 fn plain(case: &Case) -> Vec<u32> {
-    let [a, b] = [&case.a, &case.b].map(|t| Tensor::new(layout_of(t), &t.words));
-    let contraction = Contraction::new(a, b, layout_of(&case.d)).with_alpha(case.alpha).with_beta(case.beta);
     let mut words = case.d.words.clone();
-    assert_eq!(contraction.contract(&mut words), Ok(()));
+    assert_eq!(contraction_of(case).contract(&mut words), Ok(()));
     words
 }
 
@@ -134,19 +133,18 @@ fn a_budget_of_0() {
     assert_eq!(found, Ok((true, Ok(stood), Some(Ok(all)), None)));
 }
 
-/// Questions 1 to 11 are asked when a driver is made.
+/// Questions 1 to 11, and 30, are asked when a driver is made.
 #[test]
 fn refusals() {
-    for number in 1..=11 {
-        for way in ways(number) {
-            let mut r = sound_request();
-            way(&mut r);
-            let before = r.clone();
-            let found = with_tiles(&mut r, |_| ());
-            assert_eq!(found.map_err(Refusal::number), Err(number), "{before:?}");
-            assert!(r.case == before.case && r.work == before.work, "a word was changed: {before:?}");
-        }
-    }
+    (1..=11).for_each(|number| WITHOUT_C.alone(number, refuses_driver));
+    (1..=11).chain([30]).for_each(|number| WITH_C.alone(number, refuses_driver));
+}
+
+fn refuses_driver(r: &Request, number: u32) {
+    let mut tried = r.clone();
+    let found = with_tiles(&mut tried, |_| ());
+    assert_eq!(found.map_err(Refusal::number), Err(number), "{r:?}");
+    assert!(tried.case == r.case && tried.work == r.work, "a word was changed: {r:?}");
 }
 
 #[test]

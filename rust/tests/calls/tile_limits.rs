@@ -152,7 +152,7 @@ fn every_output_index_and_those_past_it() {
 fn a_total_of_2_to_the_30() {
     const TOTAL: u64 = 1 << 30;
     let a = Tensor::new("ij", &[32_768, 32_768], &[0, 0], 0, &[3]);
-    let case = Case { a, b: Tensor::scalar(5), d: Tensor::scalar(1_000), alpha: 2, beta: 9 };
+    let case = Case { a, b: Tensor::scalar(5), c: None, d: Tensor::scalar(1_000), alpha: 2, beta: 9 };
     let mut r = request(case, SIZES[0]);
     r.budget = u64::MAX;
     for (done, word) in [(TOTAL - 3, 1_090), (TOTAL - 1, 1_030), (TOTAL, 1_000)] {

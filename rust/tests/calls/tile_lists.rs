@@ -1,10 +1,12 @@
-//! Random lists of tile calls and state questions against the model: every answer and every word after each call.
+//! Random lists of tile calls and state questions against the model, with C and without: every answer and every word
+//! after each call.
 
 use crate::common::call;
 use crate::common::case::{same_words, Case, Tensor};
 use crate::common::groups::{Cut, Group, Groups};
 use crate::common::list::List;
-use crate::common::make::{accepted, spoil, Kind};
+use crate::common::make::{accepted, accepted_with_c, spoil, Kind};
+use crate::common::notes::note_c;
 use crate::common::notes_empty::note_empty;
 use crate::common::request::{work_needed, Request};
 use crate::common::rng::Rng;
@@ -66,22 +68,35 @@ fn index(rng: &mut Rng, cut: &Cut) -> OutputIndex {
     index
 }
 
+/// How a contraction is made.
+type Make = fn(&mut Rng, &Kind) -> Case;
+
 #[test]
 fn random_lists() {
+    lists(accepted).each_at_least(39 + 39 + 6, 50);
+}
+
+#[test]
+fn random_lists_with_c() {
+    lists(accepted_with_c).each_at_least(45 + 45 + 6 + 4, 50);
+}
+
+fn lists(make: Make) -> Seen {
     let mut seen = Seen::default();
     for (seed, kind) in KINDS {
         println!("seed {seed:#x}: {TURNS} lists of calls, contractions of up to {} labels", kind.labels);
         let mut rng = Rng::new(seed);
         for _ in 0..TURNS {
-            let case = accepted(&mut rng, &kind);
+            let case = make(&mut rng, &kind);
             let mut list = list_of(&mut rng, &case);
             seen.note("list that begins after some tiles", list.done() > 0);
             note_cut(&mut seen, &case, &list.model.cut);
             note_empty(&mut seen, &case);
+            note_c(&mut seen, &case);
             (0..1 + rng.below(12)).for_each(|_| turn(&mut rng, &mut list, &mut seen));
         }
     }
-    seen.each_at_least(39 + 39 + 6, 50);
+    seen
 }
 
 /// Mostly from the first tile on.
@@ -148,6 +163,10 @@ fn note_cut(seen: &mut Seen, case: &Case, cut: &Cut) {
     note_blocks(seen, "rows of D", &case.d, &groups.row, cut.tile_rows);
     note_blocks(seen, "columns of B", &case.b, &groups.column, cut.tile_cols);
     note_blocks(seen, "columns of D", &case.d, &groups.column, cut.tile_cols);
+    if let Some(c) = &case.c {
+        note_blocks(seen, "rows of C", c, &groups.row, cut.tile_rows);
+        note_blocks(seen, "columns of C", c, &groups.column, cut.tile_cols);
+    }
     for (name, group) in
         [("batch", &groups.batch), ("row", &groups.row), ("column", &groups.column), ("depth", &groups.depth)]
     {
@@ -182,11 +201,15 @@ fn note_blocks(seen: &mut Seen, name: &str, t: &Tensor, group: &Group, width: u6
 /// From the first tile to the last, whatever the budgets, D becomes what the plain engine leaves.
 #[test]
 fn the_last_tile_leaves_what_the_plain_engine_leaves() {
+    [accepted, accepted_with_c].into_iter().for_each(by_both_engines);
+}
+
+fn by_both_engines(make: Make) {
     for (seed, kind) in KINDS {
         println!("seed {seed:#x}: {} contractions", TURNS / 10);
         let mut rng = Rng::new(!seed);
         for _ in 0..TURNS / 10 {
-            let case = accepted(&mut rng, &kind);
+            let case = make(&mut rng, &kind);
             let mut list = List::new(&case, sizes(&mut rng), 0);
             let share = list.left() / (1 + rng.below(6) as u64);
             list.step(share.max(1), &mut rng);
@@ -201,12 +224,21 @@ fn the_last_tile_leaves_what_the_plain_engine_leaves() {
 /// Single requests, of which most are spoilt by edits to several things at once.
 #[test]
 fn random_requests() {
+    requests(accepted).each_at_least(26 + 5, 40);
+}
+
+#[test]
+fn random_requests_with_c() {
+    requests(accepted_with_c).each_at_least(28 + 5, 40);
+}
+
+fn requests(make: Make) -> Seen {
     let mut seen = Seen::default();
     for (seed, kind) in KINDS {
         println!("seed {seed:#x}: {TURNS} requests");
         let mut rng = Rng::new(seed << 8);
         for _ in 0..TURNS {
-            let mut case = accepted(&mut rng, &kind);
+            let mut case = make(&mut rng, &kind);
             let spoilt = rng.pick(&[0, 0, 0, 0, 0, 1, 1, 2]);
             let request = request(&mut rng, case.clone());
             (0..spoilt).for_each(|_| spoil(&mut rng, &mut case));
@@ -214,7 +246,7 @@ fn random_requests() {
             note_answers(&mut seen, &request, check_run(&request).answer, check_ask(&request).err().unwrap_or(0));
         }
     }
-    seen.each_at_least(26 + 5, 40);
+    seen
 }
 
 fn note_answers(seen: &mut Seen, request: &Request, of_tiles: u32, of_state: u32) {

@@ -1,26 +1,13 @@
 //! Every refusal of a tile call and of a state question, alone and two together. Each is made under guard: no lent word
 //! may change, a refused tile call gives the count back, and a refused question leaves the state as it was.
 
-use crate::common::broken::{sound_request, ways, Break};
-use crate::common::request::{Ran, Request};
-use crate::common::tile_call::{check_ask, check_run, same};
+use crate::common::broken::{sound_request, ways};
+use crate::common::refusing::{refuses_state, refuses_tiles, WITHOUT_C};
+use crate::common::request::Request;
+use crate::common::tile_call::{check_ask, check_run};
 
 const OF_TILES: [u32; 12] = [1, 2, 3, 4, 5, 6, 7, 8, 9, 10, 11, 12];
 const OF_STATE: [u32; 12] = [1, 2, 3, 4, 5, 6, 7, 8, 9, 10, 12, 13];
-
-fn broken(breaks: &[&Break]) -> Request {
-    let mut request = sound_request();
-    breaks.iter().for_each(|way| way(&mut request));
-    request
-}
-
-fn refuses_tiles(r: &Request, number: u32) {
-    same(r, &check_run(r), &Ran::refused(r, number));
-}
-
-fn refuses_state(r: &Request, number: u32) {
-    assert_eq!(check_ask(r), Err(number), "the state by {r:?}");
-}
 
 #[test]
 fn the_sound_one_is_accepted_and_writes_every_word() {
@@ -34,14 +21,11 @@ fn the_sound_one_is_accepted_and_writes_every_word() {
 }
 
 fn alone(number: u32) {
-    for way in ways(number) {
-        let request = broken(&[&way]);
-        if OF_TILES.contains(&number) {
-            refuses_tiles(&request, number);
-        }
-        if OF_STATE.contains(&number) {
-            refuses_state(&request, number);
-        }
+    if OF_TILES.contains(&number) {
+        WITHOUT_C.alone(number, refuses_tiles);
+    }
+    if OF_STATE.contains(&number) {
+        WITHOUT_C.alone(number, refuses_state);
     }
 }
 
@@ -70,56 +54,33 @@ fn refusal_13_alone() {
     alone(13);
 }
 
-/// Where the later question is broken too, the earlier one answers, whichever tensors fail the two.
-fn every_pair(numbers: &[u32], refuses: fn(&Request, u32)) {
-    let mut pairs = 0;
-    for (place, &first) in numbers.iter().enumerate() {
-        for &later in &numbers[place + 1..] {
-            pairs += 1;
-            let (earlier_ways, later_ways) = (ways(first), ways(later));
-            let both = later_ways.iter().flat_map(|later| earlier_ways.iter().map(move |way| [later, way]));
-            both.for_each(|both| refuses(&broken(&both), first));
-        }
-    }
-    assert_eq!(pairs, 66);
-}
-
 #[test]
 fn every_pair_of_a_tile_call() {
-    every_pair(&OF_TILES, refuses_tiles);
+    assert_eq!(WITHOUT_C.every_pair(&OF_TILES, refuses_tiles), 66);
 }
 
 #[test]
 fn every_pair_of_a_state_question() {
-    every_pair(&OF_STATE, refuses_state);
-}
-
-/// With this question and all later ones broken, this one answers.
-fn all_later_ones_broken_too(numbers: &[u32], refuses: fn(&Request, u32)) {
-    let mut request = sound_request();
-    for number in numbers.iter().rev() {
-        ways(*number)[0](&mut request);
-        refuses(&request, *number);
-    }
+    assert_eq!(WITHOUT_C.every_pair(&OF_STATE, refuses_state), 66);
 }
 
 #[test]
 fn all_later_ones_of_a_tile_call_broken_too() {
-    all_later_ones_broken_too(&OF_TILES, refuses_tiles);
+    WITHOUT_C.all_later_ones_broken_too(&OF_TILES, refuses_tiles);
 }
 
 #[test]
 fn all_later_ones_of_a_state_question_broken_too() {
-    all_later_ones_broken_too(&OF_STATE, refuses_state);
+    WITHOUT_C.all_later_ones_broken_too(&OF_STATE, refuses_state);
 }
 
 /// What only the other call is asked does not count: a state question has no work, a tile call no index.
 #[test]
 fn each_call_is_asked_its_own_questions() {
     for way in ways(11) {
-        assert_eq!(check_ask(&broken(&[&way])), Ok(0));
+        assert_eq!(check_ask(&WITHOUT_C.broken(&[&way])), Ok(0));
     }
     for way in ways(13) {
-        assert_eq!(check_run(&broken(&[&way])).answer, 0);
+        assert_eq!(check_run(&WITHOUT_C.broken(&[&way])).answer, 0);
     }
 }

@@ -1,15 +1,21 @@
-//! Blocks of every sort: even ones, up, down and with step 0, scattered ones, and labels that fold or do not.
+//! Blocks of every sort: even ones, up, down and with step 0, scattered ones, and labels that fold or do not. Each is run
+//! without C and with it.
 
 use crate::common::case::{Case, Tensor};
 use crate::common::cutting::{run_in, SIZES};
-use crate::common::formula::{contraction, reverse};
+use crate::common::formula::{contraction, reverse, with_c_too};
 use crate::common::groups::Groups;
 use crate::common::list::List;
 use crate::common::rng::Rng;
 use nezgrak::TileSizes;
 
-/// All tiles, in one call and in several; and the last half of the tiles, on words as they are given.
+/// By itself, and with C in several layouts.
 fn runs(case: &Case) {
+    with_c_too(case).iter().for_each(runs_as_it_is);
+}
+
+/// All tiles, in one call and in several; and the last half of the tiles, on words as they are given.
+fn runs_as_it_is(case: &Case) {
     let uneven = TileSizes { rows: 9, cols: 7, depth: 10 };
     for sizes in SIZES[1..].iter().copied().chain([uneven]) {
         run_in(case, sizes, 1);

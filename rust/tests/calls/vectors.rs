@@ -23,6 +23,7 @@ fn case(vector: &Json) -> Case {
     Case {
         a: tensor(vector, "A", "nA", |n| n + 1),
         b: tensor(vector, "B", "nB", |n| 2 * n + 1),
+        c: None,
         d: tensor(vector, "D", "nD", |n| 100 * n + 7),
         alpha: vector.field("alpha").number(),
         beta: vector.field("beta").number(),

@@ -1,4 +1,4 @@
-//! A sound contraction and a sound request of tiles, and ways to make one question of them fail.
+//! A sound contraction and a sound request of tiles, with C and without, and ways to make one question of them fail.
 
 use super::case::{Case, Tensor};
 use super::request::Request;
@@ -9,10 +9,16 @@ pub fn sound() -> Case {
     Case {
         a: Tensor::new("ik", &[2, 3], &[1, 2], 0, &[3, 1, 4, 1, 5, 9]),
         b: Tensor::new("kj", &[3, 2], &[-1, 3], 2, &[2, 6, 5, 3, 5, 8]),
+        c: None,
         d: Tensor::new("ij", &[2, 2], &[-1, 2], 1, &[9, 7, 9, 3]),
         alpha: 3,
         beta: 2,
     }
+}
+
+/// The same with C, which has its letters in another order, its entries at other places than D, and no word to spare.
+pub fn sound_with_c() -> Case {
+    Case { c: Some(Tensor::new("ji", &[2, 2], &[-1, 2], 1, &[4, 6, 8, 5])), ..sound() }
 }
 
 /// Four tiles, of which the second and the third are to run, with no word of work to spare.
@@ -22,12 +28,16 @@ pub fn sound_request() -> Request {
     Request { case: sound(), sizes, done: 1, budget: 2, work, index }
 }
 
+/// The same with C.
+pub fn sound_request_with_c() -> Request {
+    Request { case: sound_with_c(), ..sound_request() }
+}
+
 /// A way to make a question fail.
 pub type Break = Box<dyn Fn(&mut Request)>;
 
-/// Every way to break the question of that number, each of which breaks no earlier one.
+/// Every way to break the question of that number where C is not named, each of which breaks no earlier one.
 pub fn ways(number: u32) -> Vec<Break> {
-    let tensor = |(which, edit): (usize, &'static Edit)| -> Break { Box::new(move |r| edit(r.case.tensor_mut(which))) };
     match number {
         10 => with_values(&[0, 65, u32::MAX], |r, rows| r.sizes.rows = rows)
             .chain(with_values(&[0, 65, u32::MAX], |r, cols| r.sizes.cols = cols))
@@ -39,23 +49,49 @@ pub fn ways(number: u32) -> Vec<Break> {
             .chain(with_values(&[2, 1 << 32, u64::MAX], |r, row| r.index.row = row))
             .chain(with_values(&[2, 1 << 32, u64::MAX], |r, column| r.index.column = column))
             .collect(),
-        _ => tensors_of(number)
-            .flat_map(|which| edits(number).iter().map(move |edit| (which, edit)))
-            .map(tensor)
-            .collect(),
+        _ => tensors_of(number).chunks(1).flat_map(|which| of_tensors(number, which)).collect(),
     }
 }
+
+/// The same where C is named. Labels that D alone or C alone has more break 30 and not 7.
+pub fn ways_with_c(number: u32) -> Vec<Break> {
+    match number {
+        1..=6 | 8 => ways(number).into_iter().chain(of_tensors(number, &[3])).collect(),
+        7 => [&[0][..], &[1], &[2, 3]].into_iter().flat_map(|which| of_tensors(7, which)).collect(),
+        30 => with_values(OTHER_LETTERS, |r, edit| edit(&mut r.case)).collect(),
+        _ => ways(number),
+    }
+}
+
+/// Every edit for this question, of all of these tensors at once.
+fn of_tensors(number: u32, tensors: &'static [usize]) -> impl Iterator<Item = Break> {
+    edits(number).iter().map(move |edit| -> Break {
+        Box::new(move |r| tensors.iter().for_each(|which| edit(r.case.tensor_mut(*which))))
+    })
+}
+
+/// Edits after which C's different letters are not D's: one for another, one less, one more in C, and one more in D.
+const OTHER_LETTERS: &[fn(&mut Case)] = &[
+    |case| case.tensor_mut(3).letters[1] = b'q',
+    |case| case.tensor_mut(3).letters[1] = b'I',
+    |case| case.tensor_mut(3).letters[0] = b'i',
+    |case| case.tensor_mut(3).letters[1] = b'j',
+    |case| case.tensor_mut(3).push(b'q', 1, 0),
+    |case| case.tensor_mut(3).push(b'k', 3, 0),
+    |case| case.d.push(b'q', 1, 0),
+    |case| case.d.push(b'k', 3, 0),
+];
 
 fn with_values<T: Copy + 'static>(values: &'static [T], set: fn(&mut Request, T)) -> impl Iterator<Item = Break> {
     values.iter().map(move |value| -> Break { Box::new(move |r| set(r, *value)) })
 }
 
 /// The tensors of which a question can be broken: A 0, B 1, D 2.
-pub fn tensors_of(number: u32) -> std::ops::Range<usize> {
+pub fn tensors_of(number: u32) -> &'static [usize] {
     if number == 9 {
-        2..3
+        &[2]
     } else {
-        0..3
+        &[0, 1, 2]
     }
 }
 

@@ -2,8 +2,8 @@
 
 use super::case::{same_words, Case, Outcome};
 use super::direct;
-use super::ffi::nezgrak_contract;
-use super::lent::Lent;
+use super::ffi::contract;
+use super::lent::{Lent, LentTensor};
 
 /// Calls the engine. Fails where it changed anything that it may only read, or a guard word.
 pub fn run(case: &Case) -> Outcome {
@@ -17,13 +17,10 @@ pub fn run_flat(lent: &mut Lent, case: &Case) -> Outcome {
     // SAFETY: each layout has 28 words, and each other pointer and length are those of one slice; no two of the slices
     // that are written share a word.
     let answer = unsafe {
-        nezgrak_contract(
-            lent.a.layout(),
-            lent.a.words().as_ptr(),
-            lent.a.words().len(),
-            lent.b.layout(),
-            lent.b.words().as_ptr(),
-            lent.b.words().len(),
+        contract(
+            lent.a.operand(),
+            lent.b.operand(),
+            lent.c.as_ref().map(LentTensor::operand),
             lent.d.layout(),
             lent.d.words_mut().as_mut_ptr(),
             case.d.words.len(),

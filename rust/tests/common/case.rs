@@ -1,4 +1,4 @@
-//! A contraction as it is handed in: three tensors and two factors.
+//! A contraction as it is handed in: three tensors, or four where C is named, and two factors.
 
 use std::fmt;
 
@@ -55,22 +55,32 @@ impl fmt::Debug for Tensor {
 pub struct Case {
     pub a: Tensor,
     pub b: Tensor,
+    /// The tensor that a sum starts from where it is named.
+    pub c: Option<Tensor>,
     pub d: Tensor,
     pub alpha: u32,
     pub beta: u32,
 }
 
 impl Case {
-    pub fn tensors(&self) -> [&Tensor; 3] {
-        [&self.a, &self.b, &self.d]
+    /// A, B, C where it is named, and D.
+    pub fn tensors(&self) -> Vec<&Tensor> {
+        self.named().into_iter().map(|(_, t)| t).collect()
     }
 
-    /// A is 0, B is 1, D is 2.
+    /// The same with their names.
+    pub fn named(&self) -> Vec<(&'static str, &Tensor)> {
+        let c = self.c.iter().map(|c| ("C", c));
+        [("A", &self.a), ("B", &self.b)].into_iter().chain(c).chain([("D", &self.d)]).collect()
+    }
+
+    /// A is 0, B is 1, D is 2, and C is 3 where it is named.
     pub fn tensor_mut(&mut self, which: usize) -> &mut Tensor {
         match which {
             0 => &mut self.a,
             1 => &mut self.b,
-            _ => &mut self.d,
+            2 => &mut self.d,
+            _ => self.c.as_mut().expect("a contraction that names C"),
         }
     }
 }

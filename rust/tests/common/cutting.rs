@@ -36,7 +36,7 @@ pub fn gives(case: &Case, words: &[u32]) {
     }
 }
 
-/// A tile call and a state question have to refuse by this number, which is one of 1 to 9.
+/// A tile call and a state question have to refuse by this number, which is one of 1 to 9, or 30.
 pub fn refuses(case: &Case, number: u32) {
     let (case, index) = (case.clone(), OutputIndex::new(0, 0, 0));
     let r = Request { case, sizes: SIZES[1], done: 0, budget: 1, work: vec![7; 10], index };

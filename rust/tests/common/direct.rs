@@ -1,5 +1,5 @@
 //! The model's sum: for each index of D's labels an odometer over every label that D lacks, and exact numbers until the
-//! last step. A sum over no values is 0.
+//! last step. A sum over no values is 0. Where C is named, its entry stands for D's old word.
 
 use super::case::{Case, Outcome, Tensor};
 use super::questions::{first_no, labels};
@@ -29,11 +29,12 @@ pub fn entry(t: &Tensor, values: &Values) -> u128 {
 fn contracted(case: &Case) -> Vec<u32> {
     let (of_d, mut lacking) = (labels(&[&case.d]), labels(&case.tensors()));
     lacking.retain(|letter, _| !of_d.contains_key(letter));
+    let start = case.c.as_ref().unwrap_or(&case.d);
     let mut words = case.d.words.clone();
     for_all_values(&of_d, [0; 128], |output| {
         let mut sum = 0;
         for_all_values(&lacking, *output, |values| sum += entry(&case.a, values) * entry(&case.b, values));
-        let whole = u128::from(case.alpha) * sum + u128::from(case.beta) * entry(&case.d, output);
+        let whole = u128::from(case.alpha) * sum + u128::from(case.beta) * entry(start, output);
         words[address(&case.d, output) as usize] = (whole % (1 << 32)) as u32;
     });
     words

@@ -1,6 +1,7 @@
-//! Contractions by a formula as `ik,kj>ij`, with packed tensors and random words.
+//! Contractions by a formula as `ik,kj>ij`, with packed tensors and random words; and with C beside them.
 
 use super::case::{Case, Tensor};
+use super::groups::in_order;
 use super::rng::Rng;
 
 /// A tensor of these labels whose strides grow in this order, by extents or, with a gap, by a word more for each.
@@ -37,5 +38,21 @@ pub fn contraction(seed: u64, formula: &str, letters: &str, extents: &[u32], gap
     };
     let names: Vec<&str> = formula.split([',', '>']).collect();
     let (a, b, d) = (operand(names[0], 0), operand(names[1], 0), operand(names[2], gap));
-    Case { a, b, d, alpha: 0x9e37_79b9, beta: u32::MAX }
+    Case { a, b, c: None, d, alpha: 0x9e37_79b9, beta: u32::MAX }
+}
+
+/// The contraction as it is, and with C in layouts of three sorts: as D's letters stand; in the reverse order, counting
+/// down, with gaps; and one word for all entries.
+pub fn with_c_too(case: &Case) -> Vec<Case> {
+    let labels = in_order(&[&case.d]);
+    let mut letters: Vec<u8> = labels.iter().map(|(letter, _)| *letter).collect();
+    let mut rng = Rng::new(letters.len() as u64);
+    let mut of_order = |letters: &[u8], gap| tensor(&mut rng, &labels, &String::from_utf8_lossy(letters), gap);
+    let along = of_order(&letters, 0);
+    letters.reverse();
+    let mut against = of_order(&letters, 2);
+    (0..labels.len()).for_each(|axis| reverse(&mut against, axis));
+    let one_word = Tensor { strides: vec![0; labels.len()], words: vec![0x8000_0003], ..along.clone() };
+    let with_c = |c: Option<Tensor>| Case { c, ..case.clone() };
+    [None, Some(along), Some(against), Some(one_word)].map(with_c).into()
 }

@@ -77,7 +77,7 @@ impl Groups {
 }
 
 /// The different labels, each where it first appears.
-fn in_order(tensors: &[&Tensor]) -> Vec<(u8, u32)> {
+pub fn in_order(tensors: &[&Tensor]) -> Vec<(u8, u32)> {
     let mut labels: Vec<(u8, u32)> = Vec::new();
     for (letter, extent) in tensors.iter().flat_map(|t| t.letters.iter().zip(&t.extents)) {
         if labels.iter().all(|(seen, _)| seen != letter) {

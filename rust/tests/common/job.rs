@@ -11,7 +11,7 @@ const WORK: usize = 16_384;
 #[derive(Clone, Debug, PartialEq)]
 pub struct Job {
     pub case: Case,
-    /// Whether the words of A, B and D are written as bytes.
+    /// Whether the words of A, B and D are written as bytes. Those of C never are.
     pub as_bytes: [bool; 3],
     /// Rows, columns and depth of a tile.
     pub sizes: [u16; 3],
@@ -25,8 +25,15 @@ impl Job {
         let a = Tensor::new("ik", &[2, 3], &[1, 2], 0, &[1, 2, 3, 4, 5, 6]);
         let b = Tensor::new("kj", &[3, 2], &[1, 3], 0, &[1, 0, 2, 0, 1, 1]);
         let d = Tensor::new("ij", &[2, 2], &[1, 2], 0, &[100, 200, 300, 400]);
-        let case = Case { a, b, d, alpha: 1, beta: 2 };
+        let case = Case { a, b, c: None, d, alpha: 1, beta: 2 };
         Self { case, as_bytes: [false; 3], sizes: [1, 1, 2], done: 0, budget: 3 }
+    }
+
+    /// The same with C, which has a word for each j.
+    pub fn example_with_c() -> Self {
+        let mut job = Self::example();
+        job.case.c = Some(Tensor::new("ij", &[2, 2], &[0, 1], 0, &[10, 20]));
+        job
     }
 
     /// A tile call as a job. A number that has no room in its field becomes the largest that has.
@@ -56,11 +63,14 @@ impl Job {
         self.case.tensor_mut(which).words.iter_mut().for_each(|word| *word &= 255);
     }
 
-    /// The seven records in their order.
+    /// The records in their order: seven, or nine where C is named.
     pub fn records(&self) -> Vec<Vec<u8>> {
-        let tensors = self.case.tensors().into_iter().zip(self.as_bytes).zip(*b"ABD");
-        let of_tensor = |((t, as_bytes), name)| [layout(name, t), words(name, &t.words, as_bytes)];
-        tensors.flat_map(of_tensor).chain([self.go()]).collect()
+        let Case { a, b, c, d, .. } = &self.case;
+        let of_tensor = |name, t, as_bytes| [layout(name, t), words(name, &t.words, as_bytes)];
+        let [of_a, of_b] = [of_tensor(b'A', a, self.as_bytes[0]), of_tensor(b'B', b, self.as_bytes[1])];
+        let of_c = c.iter().flat_map(|c| of_tensor(b'C', c, false));
+        let of_d = of_tensor(b'D', d, self.as_bytes[2]);
+        of_a.into_iter().chain(of_b).chain(of_c).chain(of_d).chain([self.go()]).collect()
     }
 
     pub fn file(&self) -> Vec<u8> {

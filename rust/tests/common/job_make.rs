@@ -3,11 +3,11 @@
 use super::case::Case;
 use super::groups::{Cut, Groups};
 use super::job::Job;
-use super::make::{accepted, Kind};
+use super::make::{accepted, accepted_with_c, Kind};
 use super::rng::Rng;
 use nezgrak::TileSizes;
 
-/// A job that is accepted.
+/// A job that is accepted, with C or without.
 pub fn accepted_job(rng: &mut Rng, kind: &Kind) -> Job {
     let case = fitting(rng, kind);
     job_of(rng, case)
@@ -16,10 +16,18 @@ pub fn accepted_job(rng: &mut Rng, kind: &Kind) -> Job {
 /// A contraction whose slices fit into a job file.
 fn fitting(rng: &mut Rng, kind: &Kind) -> Case {
     loop {
-        let case = accepted(rng, kind);
+        let case = accepted_case(rng, kind);
         if case.tensors().iter().all(|t| t.words.len() <= 4_096) {
             return case;
         }
+    }
+}
+
+/// A contraction that passes every question, one in three with C.
+pub fn accepted_case(rng: &mut Rng, kind: &Kind) -> Case {
+    match rng.once_in(3) {
+        true => accepted_with_c(rng, kind),
+        false => accepted(rng, kind),
     }
 }
 

@@ -54,9 +54,10 @@ fn letters(model: &Model, t: u64, count: usize) -> Vec<char> {
 /// What a file holds, or the number that refuses it while it is read.
 pub fn read(file: &[u8]) -> Result<Job, u32> {
     let mut rest = Rest(file);
-    let (a, a_bytes) = rest.tensor(b'A')?;
-    let (b, b_bytes) = rest.tensor(b'B')?;
-    let (d, d_bytes) = rest.tensor(b'D')?;
+    let (a, a_bytes) = rest.tensor(b'A', b"WY")?;
+    let (b, b_bytes) = rest.tensor(b'B', b"WY")?;
+    let c = rest.c()?;
+    let (d, d_bytes) = rest.tensor(b'D', b"WY")?;
     rest.mark(&[*b"GO"])?;
     let go = rest.take(22)?;
     if !rest.0.is_empty() {
@@ -65,7 +66,7 @@ pub fn read(file: &[u8]) -> Result<Job, u32> {
     let (factors, counts) = (numbers(&go[..8]), numbers(&go[14..]));
     let size = |place: usize| u16::from(go[place]) + 256 * u16::from(go[place + 1]);
     Ok(Job {
-        case: Case { a, b, d, alpha: factors[0], beta: factors[1] },
+        case: Case { a, b, c, d, alpha: factors[0], beta: factors[1] },
         as_bytes: [a_bytes, b_bytes, d_bytes],
         sizes: [size(8), size(10), size(12)],
         done: counts[0],
@@ -91,10 +92,18 @@ impl<'a> Rest<'a> {
         allowed.iter().copied().find(|one| one == mark).ok_or(20)
     }
 
-    /// The two records of a tensor, and whether its words were bytes.
-    fn tensor(&mut self, name: u8) -> Result<(Tensor, bool), u32> {
+    /// The two records of C, which may follow B's words. It has no byte words.
+    fn c(&mut self) -> Result<Option<Tensor>, u32> {
+        match self.0.starts_with(b"LC") {
+            true => self.tensor(b'C', b"W").map(|(c, _)| Some(c)),
+            false => Ok(None),
+        }
+    }
+
+    /// The two records of a tensor, the second of one of these kinds, and whether its words were bytes.
+    fn tensor(&mut self, name: u8, kinds: &[u8]) -> Result<(Tensor, bool), u32> {
         let layout = self.layout(name)?;
-        let [kind, _] = self.mark(&[[b'W', name], [b'Y', name]])?;
+        let [kind, _] = self.mark(&kinds.iter().map(|kind| [*kind, name]).collect::<Vec<_>>())?;
         let count = numbers(self.take(4)?)[0] as usize;
         if count > 4_096 {
             return Err(23);

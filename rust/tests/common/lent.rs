@@ -1,7 +1,7 @@
 //! A contraction as it is lent to a call: each layout and each slice between guard words.
 
 use super::case::{Case, Tensor};
-use super::ffi::LayoutWords;
+use super::ffi::{LayoutWords, Operand};
 use super::guard::Guarded;
 use nezgrak::{Contraction, Layout};
 
@@ -23,6 +23,19 @@ pub fn words_of(t: &Tensor) -> LayoutWords {
 /// The layout as the safe calls take it.
 pub fn layout_of(t: &Tensor) -> Layout {
     Layout::new(&t.letters, &t.extents, &t.strides, t.base)
+}
+
+/// The contraction as the safe calls take it, of its own words.
+pub fn contraction_of(case: &Case) -> Contraction<'_> {
+    contraction_over(case, &case.a.words, &case.b.words, case.c.as_ref().map(|c| c.words.as_slice()))
+}
+
+/// The same with these words for A's, B's and C's.
+fn contraction_over<'a>(case: &Case, a: &'a [u32], b: &'a [u32], c: Option<&'a [u32]>) -> Contraction<'a> {
+    let tensor = |t: &Tensor, words: &'a [u32]| nezgrak::Tensor::new(layout_of(t), words);
+    let (a, b, d) = (tensor(&case.a, a), tensor(&case.b, b), layout_of(&case.d));
+    let without_c = Contraction::new(a, b, d).with_alpha(case.alpha).with_beta(case.beta);
+    case.c.as_ref().zip(c).map_or(without_c, |(t, words)| without_c.with_c(tensor(t, words)))
 }
 
 pub struct LentTensor {
@@ -48,6 +61,11 @@ impl LentTensor {
         self.words.part_mut()
     }
 
+    /// As the calls take a tensor that they only read.
+    pub fn operand(&self) -> Operand<'_> {
+        Operand { layout: self.layout(), words: self.words() }
+    }
+
     fn kept(&self, t: &Tensor) -> bool {
         self.layout.intact() && self.words.intact() && *self.layout() == words_of(t)
     }
@@ -56,36 +74,34 @@ impl LentTensor {
 pub struct Lent {
     pub a: LentTensor,
     pub b: LentTensor,
+    pub c: Option<LentTensor>,
     pub d: LentTensor,
 }
 
 impl Lent {
     pub fn of(case: &Case) -> Self {
-        Self::shifted(case, [0; 3])
+        Self::shifted(case, [0; 4])
     }
 
-    /// The words of A, B and D start so many words later.
-    pub fn shifted(case: &Case, [of_a, of_b, of_d]: [usize; 3]) -> Self {
+    /// The words of A, B, C and D start so many words later.
+    pub fn shifted(case: &Case, [of_a, of_b, of_c, of_d]: [usize; 4]) -> Self {
         let [a, b, d] =
             [(&case.a, of_a), (&case.b, of_b), (&case.d, of_d)].map(|(t, shift)| LentTensor::shifted(t, shift));
-        Self { a, b, d }
+        Self { a, b, c: case.c.as_ref().map(|c| LentTensor::shifted(c, of_c)), d }
     }
 
     /// The contraction as the safe calls take it, of the lent words, and D's words beside it.
     pub fn contraction(&mut self, case: &Case) -> (Contraction<'_>, &mut [u32]) {
-        let (a, b) = (tensor(&case.a, self.a.words()), tensor(&case.b, self.b.words()));
-        (Contraction::new(a, b, layout_of(&case.d)).with_alpha(case.alpha).with_beta(case.beta), self.d.words_mut())
+        let words_of_c = self.c.as_ref().map(LentTensor::words);
+        (contraction_over(case, self.a.words(), self.b.words(), words_of_c), self.d.words_mut())
     }
 
-    /// Fails where a layout, a word of A or B, or a guard word was changed.
+    /// Fails where a layout, a word of A, B or C, or a guard word was changed.
     pub fn check(&self, case: &Case) {
-        let kept = self.a.kept(&case.a) && self.b.kept(&case.b) && self.d.kept(&case.d);
-        assert!(kept, "a layout, or a word outside a slice, was changed: {case:?}");
-        let read = self.a.words() == case.a.words && self.b.words() == case.b.words;
-        assert!(read, "A or B was changed: {case:?}");
+        let read = [&self.a, &self.b].into_iter().chain(&self.c);
+        for ((name, t), lent) in case.named().into_iter().zip(read.chain([&self.d])) {
+            assert!(lent.kept(t), "a layout, or a word outside a slice, was changed: {case:?}");
+            assert!(name == "D" || lent.words() == t.words, "{name} was changed: {case:?}");
+        }
     }
-}
-
-fn tensor<'a>(t: &Tensor, words: &'a [u32]) -> nezgrak::Tensor<'a> {
-    nezgrak::Tensor::new(layout_of(t), words)
 }

@@ -16,7 +16,8 @@ pub struct List {
 }
 
 impl List {
-    /// A list that begins with a count of tiles done; the case passes questions 1 to 9, the sizes 10, the count 12.
+    /// A list that begins with a count of tiles done; the case passes questions 1 to 9 and 30, the sizes 10, the
+    /// count 12.
     pub fn new(case: &Case, sizes: TileSizes, start: u64) -> Self {
         let (model, old, index) = (Model::of(case, sizes), case.d.words.clone(), OutputIndex::new(0, 0, 0));
         let request = Request { case: case.clone(), sizes, done: start, budget: 0, work: Vec::new(), index };

@@ -1,4 +1,4 @@
-//! Random contractions: accepted ones by construction, and ones that an edit spoils.
+//! Random contractions, with C or without: accepted ones by construction, and ones that an edit spoils.
 
 use super::case::{Case, Tensor};
 use super::make_empty::strides_base_and_words;
@@ -25,11 +25,27 @@ struct Label {
     tensors: usize,
 }
 
-/// A contraction that passes every question.
+/// A contraction without C that passes every question.
 pub fn accepted(rng: &mut Rng, kind: &Kind) -> Case {
     let labels = labels(rng, kind);
     let [a, b, d] = [0, 1, 2].map(|which| tensor(rng, kind, &labels, which));
-    Case { a, b, d, alpha: factor(rng), beta: factor(rng) }
+    Case { a, b, c: None, d, alpha: factor(rng), beta: factor(rng) }
+}
+
+/// The same with C.
+pub fn accepted_with_c(rng: &mut Rng, kind: &Kind) -> Case {
+    let case = accepted(rng, kind);
+    let c = c_beside(rng, kind, &case.d);
+    Case { c: Some(c), ..case }
+}
+
+/// With C or without.
+pub fn accepted_of_both_forms(rng: &mut Rng, kind: &Kind) -> Case {
+    if rng.once_in(2) {
+        accepted_with_c(rng, kind)
+    } else {
+        accepted(rng, kind)
+    }
 }
 
 fn labels(rng: &mut Rng, kind: &Kind) -> Vec<Label> {
@@ -63,8 +79,28 @@ fn tensor(rng: &mut Rng, kind: &Kind, labels: &[Label], which: usize) -> Tensor 
         rng.shuffle(&mut own);
     }
     own.truncate(8);
+    let own: Vec<_> = own.into_iter().map(|label| (label.letter, label.extent)).collect();
+    tensor_of(rng, kind, &own, which)
+}
+
+/// D's labels, mostly in another order.
+fn c_beside(rng: &mut Rng, kind: &Kind, d: &Tensor) -> Tensor {
+    let mut own: Vec<(u8, u32)> = Vec::new();
+    for label in d.letters.iter().copied().zip(d.extents.iter().copied()) {
+        if !own.contains(&label) {
+            own.push(label);
+        }
+    }
+    if !kind.aligned || rng.once_in(6) {
+        rng.shuffle(&mut own);
+    }
+    tensor_of(rng, kind, &own, 3)
+}
+
+/// A tensor of these letters and extents. A is 0, B 1, D 2 and C 3.
+fn tensor_of(rng: &mut Rng, kind: &Kind, own: &[(u8, u32)], which: usize) -> Tensor {
     let mut t = Tensor::new("", &[], &[], 0, &[]);
-    own.iter().for_each(|label| t.push(label.letter, label.extent, 0));
+    own.iter().for_each(|(letter, extent)| t.push(*letter, *extent, 0));
     if t.is_empty() {
         strides_base_and_words(rng, &mut t);
     } else {
@@ -168,10 +204,20 @@ fn repeat_letters(rng: &mut Rng, t: &mut Tensor) {
 }
 
 /// One small edit, which most often makes one question fail, and sometimes none. Edit n is meant for question n; 10
-/// turns an axis round, and 11 leaves a tensor without entries.
+/// turns an axis round, and 11 leaves a tensor without entries. Where C is named, one in five is meant for 30, and 7 is
+/// not for C or D, whose letters it would make differ.
 pub fn spoil(rng: &mut Rng, case: &mut Case) {
+    if case.c.is_some() && rng.once_in(5) {
+        return other_letters(rng, case);
+    }
     let edit = rng.pick(&[1, 2, 3, 4, 5, 6, 6, 7, 8, 9, 9, 9, 10, 11]);
-    let t = case.tensor_mut(if edit == 9 { 2 } else { rng.below(3) });
+    let which = match (edit, &case.c) {
+        (9, _) => 2,
+        (7, Some(_)) => rng.below(2),
+        (_, Some(_)) => rng.below(4),
+        (_, None) => rng.below(3),
+    };
+    let t = case.tensor_mut(which);
     match edit {
         1 => (t.letters.len()..9).for_each(|_| t.push(rng.pick(b"xyzXYZ"), 1, 0)),
         2 => miscount(rng, t),
@@ -182,6 +228,26 @@ pub fn spoil(rng: &mut Rng, case: &mut Case) {
             0 => t.base = rng.pick(&[1, LIMIT as u32, LIMIT as u32 + 1]),
             axes => spoil_axis(rng, t, edit, axes),
         },
+    }
+}
+
+/// Gives C, or D, one more letter, of A's or another, or takes one of its axes away. A letter that it has is repeated.
+fn other_letters(rng: &mut Rng, case: &mut Case) {
+    let of_a = case.a.letters.iter().copied().zip(case.a.extents.iter().copied()).collect::<Vec<_>>();
+    let t = case.tensor_mut(rng.pick(&[2, 3, 3, 3]));
+    let axes = t.letters.len().min(t.extents.len()).min(t.strides.len());
+    match rng.below(3) {
+        0 if !of_a.is_empty() => {
+            let (letter, extent) = rng.pick(&of_a);
+            t.push(letter, extent, 0);
+        }
+        1 if axes > 0 => {
+            let axis = rng.below(axes);
+            t.letters.remove(axis);
+            t.extents.remove(axis);
+            t.strides.remove(axis);
+        }
+        _ => t.push(rng.pick(b"uvwxyz"), 1, 0),
     }
 }
 

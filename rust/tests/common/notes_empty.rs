@@ -45,7 +45,7 @@ fn has_others(group: &Group) -> bool {
 /// that have entries.
 fn note_tensors(seen: &mut Seen, case: &Case) {
     let some_empty = case.tensors().iter().any(|t| t.is_empty());
-    for (name, t) in ["A", "B", "D"].iter().zip(case.tensors()) {
+    for (name, t) in case.named() {
         let empty = t.is_empty();
         let past_end = t.base as usize >= t.words.len();
         seen.note(&format!("no entries in {name}"), empty);

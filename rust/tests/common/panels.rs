@@ -8,14 +8,15 @@ use super::questions::{first_no_of_state, first_no_of_tiles};
 use super::request::{Ran, Request};
 use nezgrak::{OutputIndex, TileSizes};
 
-/// An output index: where its word is, and what each panel sums for it.
+/// An output index: where its word is, C's entry where C is named, and what each panel sums for it.
 struct Output {
     index: OutputIndex,
     place: usize,
+    of_c: Option<u128>,
     panel_sums: Vec<u128>,
 }
 
-/// A contraction that passes questions 1 to 10.
+/// A contraction that passes questions 1 to 10, and 30.
 pub struct Model {
     case: Case,
     groups: Groups,
@@ -47,7 +48,8 @@ impl Model {
         };
         let Cut { depth, tile_depth, panels, .. } = self.cut;
         let panel_sum = |panel| (panel * tile_depth..depth.min((panel + 1) * tile_depth)).map(term).sum();
-        Output { index, place: self.place(index), panel_sums: (0..panels).map(panel_sum).collect() }
+        let of_c = self.case.c.as_ref().map(|c| entry(c, &self.groups.values(index)));
+        Output { index, place: self.place(index), of_c, panel_sums: (0..panels).map(panel_sum).collect() }
     }
 
     /// The place in D's slice of an output index.
@@ -78,8 +80,9 @@ impl Model {
         for output in &self.outputs {
             let ran = |panel: usize| (start..t).contains(&self.number(output.index, panel as u64));
             let sum: u128 = (0..output.panel_sums.len()).filter(|&p| ran(p)).map(|p| output.panel_sums[p]).sum();
-            let factor = if ran(0) { self.case.beta } else { 1 };
-            let whole = u128::from(factor) * u128::from(old[output.place]) + u128::from(self.case.alpha) * sum;
+            let old_word = u128::from(old[output.place]);
+            let before = if ran(0) { u128::from(self.case.beta) * output.of_c.unwrap_or(old_word) } else { old_word };
+            let whole = before + u128::from(self.case.alpha) * sum;
             words[output.place] = (whole % (1 << 32)) as u32;
         }
         words

@@ -5,11 +5,11 @@ use super::direct::{address, Values};
 use super::groups::{Cut, Groups};
 use super::request::{work_needed, Request};
 use nezgrak::TileSizes;
-use std::collections::BTreeMap;
+use std::collections::{BTreeMap, BTreeSet};
 
 const LIMIT: i128 = 16_777_216;
 
-/// The number of the first question of the plain call that fails, or 0.
+/// The number of the first question of the plain call that fails, or 0. C is asked where it is named: 1 to 6, 30 and 8.
 pub fn first_no(case: &Case) -> u32 {
     let every = |asked: fn(&Tensor) -> bool| case.tensors().into_iter().all(asked);
     if !every(|t| t.letters.len() <= 8) {
@@ -24,6 +24,8 @@ pub fn first_no(case: &Case) -> u32 {
         5
     } else if !extents_agree(case) {
         6
+    } else if case.c.as_ref().is_some_and(|c| letters(c) != letters(&case.d)) {
+        30
     } else if !product(case).is_some_and(|product| product <= 1_073_741_824) {
         7
     } else if !every(entries_inside) {
@@ -35,12 +37,12 @@ pub fn first_no(case: &Case) -> u32 {
     }
 }
 
-/// That of a tile call: 1 to 12.
+/// That of a tile call: 1 to 12, and 30 after 6.
 pub fn first_no_of_tiles(r: &Request) -> u32 {
     tiles_after(first_no(&r.case), r)
 }
 
-/// The same where it is known what the first nine say.
+/// The same where it is known what the first nine, and 30, say.
 pub fn tiles_after(first_nine: u32, r: &Request) -> u32 {
     let number = first_ten_after(first_nine, r.sizes);
     if number != 0 {
@@ -54,12 +56,12 @@ pub fn tiles_after(first_nine: u32, r: &Request) -> u32 {
     }
 }
 
-/// That of a state question: 1 to 10, 12 and 13.
+/// That of a state question: 1 to 10, 12 and 13, and 30 after 6.
 pub fn first_no_of_state(r: &Request) -> u32 {
     state_after(first_no(&r.case), r)
 }
 
-/// The same where it is known what the first nine say.
+/// The same where it is known what the first nine, and 30, say.
 pub fn state_after(first_nine: u32, r: &Request) -> u32 {
     let number = first_ten_after(first_nine, r.sizes);
     if number != 0 {
@@ -75,7 +77,7 @@ pub fn state_after(first_nine: u32, r: &Request) -> u32 {
     }
 }
 
-/// That of questions 1 to 10, which say whether a contraction is accepted.
+/// That of questions 1 to 10, and 30, which say whether a contraction is accepted.
 pub fn first_ten_after(first_nine: u32, sizes: TileSizes) -> u32 {
     match first_nine {
         0 if !sizes_fit(sizes) => 10,
@@ -103,6 +105,11 @@ pub fn product(case: &Case) -> Option<u128> {
     let mut extents =
         labels(&case.tensors()).into_values().map(|extent| if extent == 0 { 1 } else { u128::from(extent) });
     extents.try_fold(1, u128::checked_mul)
+}
+
+/// The different letters of a tensor.
+fn letters(t: &Tensor) -> BTreeSet<u8> {
+    t.letters.iter().copied().collect()
 }
 
 /// Every different label of these tensors, with an extent that it has in one of them.

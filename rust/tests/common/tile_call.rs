@@ -1,9 +1,9 @@
 //! Tile calls and state questions under guard: each by its words and by the safe call, which have to agree.
 
 use super::case::same_words;
-use super::ffi::{nezgrak_run_tiles, nezgrak_state};
+use super::ffi::{run_tiles, state};
 use super::guard::Guarded;
-use super::lent::Lent;
+use super::lent::{Lent, LentTensor};
 use super::panels;
 use super::request::{Ran, Request};
 use nezgrak::State;
@@ -30,13 +30,10 @@ pub fn run_lent(lent: &mut Lent, r: &Request, mut work: Guarded<u32>, unset_coun
     // SAFETY: each layout has 28 words, and each other pointer and length are those of one slice; no two of the slices
     // that are written share a word.
     let answer = unsafe {
-        nezgrak_run_tiles(
-            lent.a.layout(),
-            lent.a.words().as_ptr(),
-            lent.a.words().len(),
-            lent.b.layout(),
-            lent.b.words().as_ptr(),
-            lent.b.words().len(),
+        run_tiles(
+            lent.a.operand(),
+            lent.b.operand(),
+            lent.c.as_ref().map(LentTensor::operand),
             lent.d.layout(),
             lent.d.words_mut().as_mut_ptr(),
             r.case.d.words.len(),
@@ -86,17 +83,14 @@ fn ask_flat(r: &Request) -> Result<u32, u32> {
 
 /// The same of what is lent, with this number where the state goes.
 pub fn ask_lent(lent: &Lent, r: &Request, unset: u32) -> Result<u32, u32> {
-    let mut state = Guarded::around(&[unset]);
+    let mut answered = Guarded::around(&[unset]);
     // SAFETY: each layout has 28 words, and each other pointer and length are those of one slice; the state, which is
     // written, shares no word with others.
     let answer = unsafe {
-        nezgrak_state(
-            lent.a.layout(),
-            lent.a.words().as_ptr(),
-            lent.a.words().len(),
-            lent.b.layout(),
-            lent.b.words().as_ptr(),
-            lent.b.words().len(),
+        state(
+            lent.a.operand(),
+            lent.b.operand(),
+            lent.c.as_ref().map(LentTensor::operand),
             lent.d.layout(),
             lent.d.words().as_ptr(),
             lent.d.words().len(),
@@ -109,15 +103,15 @@ pub fn ask_lent(lent: &Lent, r: &Request, unset: u32) -> Result<u32, u32> {
             r.index.batch,
             r.index.row,
             r.index.column,
-            state.part_mut().as_mut_ptr(),
+            answered.part_mut().as_mut_ptr(),
         )
     };
     lent.check(&r.case);
     same_words("D", r, lent.d.words(), &r.case.d.words);
-    assert!(state.intact(), "a word beside the state was changed: {r:?}");
-    assert!(answer == 0 || state.part() == [unset], "a refusal set the state: {r:?}");
+    assert!(answered.intact(), "a word beside the state was changed: {r:?}");
+    assert!(answer == 0 || answered.part() == [unset], "a refusal set the state: {r:?}");
     match answer {
-        0 => Ok(state.part()[0]),
+        0 => Ok(answered.part()[0]),
         number => Err(number),
     }
 }

@@ -1,5 +1,5 @@
-//! Job files with changed bytes: small ones with each byte changed to every other value, ones with labels of extent 0
-//! with each bit changed, and random edits of random ones.
+//! Job files with changed bytes: small ones with each byte changed to every other value, with C each of its bytes and
+//! each bit of the others, ones with labels of extent 0 with each bit changed, and random edits of random ones.
 //!
 //! A changed byte may give a label an extent of up to 65,536. In the small files no such change makes a long sum: they
 //! have no stride of 0, so that question 8 refuses a larger extent, where 6 does not. A stride that becomes 0 goes with
@@ -20,7 +20,7 @@ fn small() -> Job {
     let a = Tensor::new("k", &[2], &[1], 0, &[3, 1_000_000_007]);
     let b = Tensor::new("k", &[2], &[-1], 1, &[5, 250]);
     let d = Tensor::new("i", &[2], &[2], 0, &[100, 200, 300]);
-    let case = Case { a, b, d, alpha: 7, beta: 3 };
+    let case = Case { a, b, c: None, d, alpha: 7, beta: 3 };
     Job { case, as_bytes: [false; 3], sizes: [1, 1, 1], done: 1, budget: 2 }
 }
 
@@ -73,6 +73,38 @@ fn every_byte_of_a_file_with_bytes() {
     has_each(&seen, &[1, 3, 4, 5, 6, 8, 9, 10, 12, 20, 21, 23], 1);
 }
 
+/// The small job with a C whose entries stand in another order than D's.
+fn small_with_c() -> Job {
+    let mut job = small();
+    job.case.c = Some(Tensor::new("i", &[2], &[-1], 1, &[40, 1_000_000_009]));
+    job
+}
+
+/// C's records hold 30 bytes.
+#[test]
+fn every_byte_of_c() {
+    let records = small_with_c().records();
+    let [before, of_c, after] = [&records[..4], &records[4..6], &records[6..]].map(|part| part.concat());
+    assert_eq!(of_c.len(), 30);
+    let files: Vec<Vec<u8>> = changed(&of_c).iter().map(|c| [&before[..], c, &after].concat()).collect();
+    assert_eq!(files.len(), 30 * 255);
+    let seen = note_answers(&files);
+    seen.at_least("accepted", 1_500);
+    has_each(&seen, &[1, 3, 4, 5, 6, 8, 20, 21, 23, 30], 1);
+}
+
+#[test]
+fn every_bit_of_a_file_with_c() {
+    for done in 0..3 {
+        let file = Job { done, ..small_with_c() }.file();
+        let files = changed_to(&file, |byte| (0..8).map(|bit| byte ^ 1 << bit).collect());
+        assert_eq!(files.len(), 8 * 148);
+        let seen = note_answers(&files);
+        seen.at_least("accepted", 400);
+        has_each(&seen, &[1, 3, 4, 5, 6, 8, 10, 12, 20, 21, 23, 30], 1);
+    }
+}
+
 /// A label of extent 0 that only A has, and one that only D has: with a bit more they have values, and the bytes around
 /// them still count.
 #[test]
@@ -92,6 +124,21 @@ fn every_bit_of_files_with_empty_layers() {
         let seen = note_answers(&files);
         seen.at_least("accepted", 250);
         has_each(&seen, &[1, 3, 4, 5, 8, 10, 12, 20, 21, 23], 1);
+    }
+}
+
+/// The same for C: over no values, beside a D that has none, and both.
+#[test]
+fn every_bit_of_files_with_c_and_empty_layers() {
+    let mut no_terms = small_with_c();
+    (no_terms.case.a.extents[0], no_terms.case.b.extents[0]) = (0, 0);
+    let mut no_entries = Job { done: 0, ..small_with_c() };
+    (no_entries.case.d.extents[0], no_entries.case.tensor_mut(3).extents[0]) = (0, 0);
+    for job in [no_terms, no_entries] {
+        let files = changed_to(&job.file(), |byte| (0..8).map(|bit| byte ^ 1 << bit).collect());
+        let seen = note_answers(&files);
+        seen.at_least("accepted", 250);
+        has_each(&seen, &[1, 3, 4, 5, 6, 8, 10, 12, 20, 21, 23, 30], 1);
     }
 }
 
@@ -115,6 +162,7 @@ fn random_edits() {
     let seen = note_answers(&files);
     seen.at_least("accepted", 500);
     has_each(&seen, &[1, 3, 4, 5, 6, 8, 10, 12, 20, 21, 22, 23], 5);
+    has_each(&seen, &[30], 2);
 }
 
 fn edited(rng: &mut Rng, kind: &Kind) -> Vec<u8> {

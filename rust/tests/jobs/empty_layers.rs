@@ -5,7 +5,7 @@ use crate::common::job::Job;
 use crate::common::program::{check, prints};
 
 fn job(a: Tensor, b: Tensor, d: Tensor) -> Job {
-    let case = Case { a, b, d, alpha: 7, beta: 3 };
+    let case = Case { a, b, c: None, d, alpha: 7, beta: 3 };
     Job { case, as_bytes: [false; 3], sizes: [1, 2, 4], done: 0, budget: u32::MAX }
 }
 

@@ -59,7 +59,7 @@ fn word_of(line: &str) -> u32 {
 
 /// A × B in one tile; alpha 1, beta 0.
 fn one_tile(a: Tensor, b: Tensor, d: Tensor) -> Job {
-    let case = Case { a, b, d, alpha: 1, beta: 0 };
+    let case = Case { a, b, c: None, d, alpha: 1, beta: 0 };
     Job { case, as_bytes: [false; 3], sizes: [64, 64, 128], done: 0, budget: 1 }
 }
 

@@ -7,6 +7,7 @@ use crate::common::make::Kind;
 use crate::common::program::{run, same};
 use crate::common::rng::Rng;
 use crate::common::temp_file::TempFile;
+use crate::limits::longest;
 use std::ffi::OsStr;
 use std::fs;
 use std::path::Path;
@@ -38,7 +39,20 @@ fn random_jobs_as_arguments() {
     }
 }
 
-/// A refused file, an empty one, and one of more than 65,536 bytes.
+/// A file with C, and the longest that is accepted, as an argument and in pieces.
+#[test]
+fn files_with_c() {
+    answers("c", &Job::example_with_c().file(), "tiles 3 of 8\n31 f\n22 p\n300 o\n400 o\n");
+    let file = longest().file();
+    let text = answer(&file);
+    answers("longest", &file, &text);
+    answers("longer", &[&file[..], b"\0"].concat(), "refused 22\n");
+    for length in [1_000, 4_096, 32_768, 65_536, 65_899] {
+        same(&file, &run(&[], &file.chunks(length).collect::<Vec<_>>()), &text);
+    }
+}
+
+/// A refused file, an empty one, and one of more bytes than the program reads.
 #[test]
 fn other_files_as_arguments() {
     let file = Job::example().file();

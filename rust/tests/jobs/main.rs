@@ -12,3 +12,4 @@ mod random;
 mod reading;
 mod records;
 mod refusals;
+mod with_c;

@@ -1,12 +1,13 @@
-//! Random jobs against the model: contractions of every sort, from any count of tiles done and with any budget, their
-//! words written as words or as bytes; then ones of which most are spoilt.
+//! Random jobs against the model: contractions of every sort, with C or without, from any count of tiles done and with
+//! any budget, their words written as words or as bytes; then ones of which most are spoilt.
 
+use crate::common::case::Case;
 use crate::common::groups::{Cut, Groups};
 use crate::common::job::Job;
-use crate::common::job_make::{accepted_job, job_of};
+use crate::common::job_make::{accepted_case, accepted_job, job_of};
 use crate::common::job_model::{read, refused};
-use crate::common::make::{accepted, spoil, Kind};
-use crate::common::notes::{note_factors, note_labels, note_strides};
+use crate::common::make::{spoil, Kind};
+use crate::common::notes::{note_c, note_factors, note_labels, note_strides};
 use crate::common::notes_empty::note_empty;
 use crate::common::program::check_all;
 use crate::common::rng::Rng;
@@ -40,22 +41,31 @@ fn accepted_jobs() {
         note_factors(&mut seen, &job.case);
         note_labels(&mut seen, &job.case);
         note_strides(&mut seen, &job.case);
+        note_c(&mut seen, &job.case);
         note_empty(&mut seen, &job.case);
         note_job(&mut seen, job);
         note_text(&mut seen, &text);
     }
-    seen.each_at_least(66 + 39 + 4, 25);
+    // The last 24 are about C.
+    seen.each_at_least(66 + 39 + 4 + 24, 25);
 }
 
 fn note_job(seen: &mut Seen, job: &Job) {
-    for ((name, t), as_bytes) in ["A", "B", "D"].iter().zip(job.case.tensors()).zip(job.as_bytes) {
+    let Case { a, b, d, .. } = &job.case;
+    for ((name, t), as_bytes) in [("A", a), ("B", b), ("D", d)].iter().zip(job.as_bytes) {
         seen.note(&format!("bytes above 127 in {name}"), as_bytes && t.words.iter().any(|word| *word > 127));
+    }
+    for (name, t) in job.case.named() {
         seen.note(&format!("more than 2,000 words in {name}"), t.words.len() > 2_000);
     }
     let request = job.request();
     let cut = Cut::of(&Groups::of(&job.case), request.sizes);
     let left = cut.total() - request.done;
+    let has_c = job.case.c.is_some();
     seen.note("some tiles done before", request.done > 0);
+    seen.note("C and some tiles done before", has_c && request.done > 0 && left > 0);
+    seen.note("C and several panels", has_c && cut.panels > 1);
+    seen.note("C and budget of less than what is left", has_c && (1..left).contains(&request.budget));
     seen.note("all tiles done before", left == 0 && cut.total() > 0);
     seen.note("no tiles at all", cut.total() == 0);
     seen.note("a budget where there are no tiles", cut.total() == 0 && request.budget > 0);
@@ -92,12 +102,12 @@ fn spoilt_jobs() {
         seen.note(if accepted { "accepted" } else { text.trim_end() }, true);
     }
     seen.at_least("accepted", 200);
-    (3..=10).chain([1, 12, 20, 23]).for_each(|number| seen.at_least(refused(number).trim_end(), 10));
+    (3..=10).chain([1, 12, 20, 23, 30]).for_each(|number| seen.at_least(refused(number).trim_end(), 10));
 }
 
 /// A job whose slices may also be too long for a file.
 fn spoilt(rng: &mut Rng, kind: &Kind) -> Job {
-    let case = accepted(rng, kind);
+    let case = accepted_case(rng, kind);
     let mut job = job_of(rng, case);
     for _ in 0..rng.below(4) {
         match rng.below(8) {

@@ -2,6 +2,7 @@
 -- which are those of the counts from len × m on. The measure is how many runs are left.
 -- Assumes nothing.
 use mathlib.Core.Path.{_≡_, refl, ap, sym, _∙_, subst⁻¹, fun-ext}
+use mathlib.Core.Bool.{Bool}
 use mathlib.Core.List.{List}
 use Prim.Native.Nat.{ℕ, _+_, _-_, _*_, _<_, _≤_}
 use native.Mathlib.Nat.{mul-zero, mul-suc}
@@ -12,7 +13,7 @@ use lib.ListN.{length}
 use Rattle.words.specs.Words.{wordOf}
 use Rattle.words.specs.Loops.{each}
 use Rattle.words.proofs.Loops.{each-ext, each-add}
-use Rattle.contraction.specs.Operands.{Operand, D}
+use Rattle.contraction.specs.Operands.{Operand, C, D}
 use Rattle.groups.specs.Groups.{Label, size}
 use Rattle.groups.specs.Held.{labelsIn}
 use Rattle.offsets.specs.Counts.{offsetIn}
@@ -32,14 +33,17 @@ module _ {g : List Label} {w : Walk} (k : Walks g w) (base : Offsets) (m : ℕ) 
   same-places : (v : ℕ) → v < w .len → steps at (w .step) v ≡ places base g (w .len * m + v)
   same-places v h = fun-ext (λ o. run-place g w k base m of plus o v h)
 
-  run-clear : {q : List Label} {a b : List ℕ} {n : ℕ} → m < w .runs → Clear (size g) (places base g) q a b n → Clear (w .len) (steps at (w .step)) q a b n
-  run-clear {q} {a} {b} {n} h c =
+  -- what holds of the places of all counts holds of the run's
+  in-run : (P : (Operand → ℕ) → Type 0) → m < w .runs → ((n : ℕ) → n < size g → P (places base g n)) → (v : ℕ) → v < w .len → P (steps at (w .step) v)
+  in-run P h f v i = subst⁻¹ P (same-places v i) (f (w .len * m + v) (run-below g w k m v h i))
+
+  run-clear : {named : Bool} {q : List Label} {a b c : List ℕ} {n : ℕ} → m < w .runs → Clear named (size g) (places base g) q a b c n
+      → Clear named (w .len) (steps at (w .step)) q a b c n
+  run-clear {q} {a} {b} {c} {n} h x =
       record {
-        reads = λ v i. subst⁻¹ (Readable q a b) (same-places v i) (c .reads (w .len * m + v) (run-below g w k m v h i));
-        writes =
-            record {
-              each = λ v i. subst⁻¹ (λ (f : Operand → ℕ). f D < n) (same-places v i) (c .writes .each (w .len * m + v) (run-below g w k m v h i));
-            };
+        reads = in-run (Readable q a b) h (x .reads);
+        starts = λ e. record { each = in-run (λ (f : Operand → ℕ). f C < length c) h (x .starts e .each) };
+        writes = record { each = in-run (λ (f : Operand → ℕ). f D < n) h (x .writes .each) };
       }
 
   -- D's words after the runs before it, and after this one
@@ -51,12 +55,12 @@ module _ {g : List Label} {w : Walk} (k : Walks g w) (base : Offsets) (m : ℕ) 
       ∙ sym (each-add (w .len * m) (w .len) (λ n. body (places base g n)) d₀))
 
 abbrev Inv-loop : tie.InvT-loop
-Inv-loop a b d₀ alpha beta base depth group step len runs m₀ d m =
+Inv-loop a b c d₀ named alpha beta base depth group step len runs m₀ d m =
     (m ≤ runs) × (length d ≡ length d₀)
-    × (d ≡ each (len * m) (λ n. filled alpha beta (labelsIn (depth .group)) a b (places base (labelsIn group) n)) d₀)
+    × (d ≡ each (len * m) (λ n. filled named alpha beta (labelsIn (depth .group)) a b c (places base (labelsIn group) n)) d₀)
 
 abbrev μ-loop : tie.MeasureT-loop
-μ-loop a b d₀ alpha beta base depth group step len runs m₀ d m = runs - m
+μ-loop a b c d₀ named alpha beta base depth group step len runs m₀ d m = runs - m
 
 loop-holds : tie.Need-loop-holds Inv-loop μ-loop
 unfolding each
@@ -64,12 +68,12 @@ loop-holds c = (omega arith, refl, rw mul-zero)
 
 mul-of : tie.Need-mul-of Inv-loop μ-loop
 mul-of c =
-    let k = c .before .before .before .before .before .before .before .pre .0 in
+    let k = c .before .before .before .before .before .before .before .before .pre .0 in
     omega (arith, run-starts _ _ k {m = c .before .loop .m} (omega arith), k .small)
 
 of-requires : tie.Need-of-requires Inv-loop μ-loop
 of-requires c κs =
-    let k = c .before .before .before .before .before .before .before .pre .0 in
+    let k = c .before .before .before .before .before .before .before .before .pre .0 in
     (k .few, run-starts _ _ k (omega arith))
 
 plus-requires : tie.Need-plus-requires Inv-loop μ-loop
@@ -77,24 +81,24 @@ plus-requires c κs = tt
 
 fill-run-requires : tie.Need-fill-run-requires Inv-loop μ-loop
 fill-run-requires c κs =
-    let s = c .before .before .before .before .before .before .before .before .before .before in
+    let s = c .before .before .before .before .before .before .before .before .before .before .before in
     let l = c .before .before .before .before .loop in
     (s .pre .1, run-clear (s .pre .0) (s .args .base) (l .m) (c .before .before .of .ensures) (c .before .plus .ensures) (omega arith) (rw (l .inv .1) (s .pre .2)))
 
 add-m : tie.Need-add-m Inv-loop μ-loop
-add-m c = omega (arith, c .before .before .before .before .before .before .before .before .before .before .before .before .before .good .1 .1 .1 .1 .1 .1 .0 .1)
+add-m c = omega (arith, c .before .before .before .before .before .before .before .before .before .before .before .before .before .before .good .1 .1 .1 .1 .1 .1 .1 .1 .0 .1)
 
 loop-less : tie.Need-loop-less Inv-loop μ-loop
 loop-less c = omega arith
 
 loop-again : tie.Need-loop-again Inv-loop μ-loop
 loop-again c =
-    let s = c .before .before .before .before .before .before .before .before .before .before .before .before .before in
+    let s = c .before .before .before .before .before .before .before .before .before .before .before .before .before .before in
     let l = c .before .before .before .before .before .before .before .loop in
     let f = c .before .before .fill-run in
-    let body = filled (s .args .alpha) (s .args .beta) (labelsIn (s .args .depth .group)) (s .args .a .now) (s .args .b .now) in (
+    let body = filled (s .args .named) (s .args .alpha) (s .args .beta) (labelsIn (s .args .depth .group)) (s .args .a .now) (s .args .b .now) (s .args .c .now) in (
       omega arith,
-      f .kept .1 .1 .0 ∙ l .inv .1,
+      f .kept .1 .1 .1 .0 ∙ l .inv .1,
       turn (s .pre .0) (s .args .base) (l .m) (c .before .before .before .before .before .of .ensures) (c .before .before .before .before .plus .ensures) body _ (l .inv .2) (f .ensures),
     )
 
@@ -103,7 +107,7 @@ same-length c = search needs
 
 returns : tie.Need-returns Inv-loop μ-loop
 returns c =
-    let s = c .before .before .before .before .before .before .before in
+    let s = c .before .before .before .before .before .before .before .before in
     let l = c .before .loop in
     let e : l .m ≡ s .args .output .runs = omega arith in
     rw (s .pre .0 .counts) (rw e at (l .inv .2))

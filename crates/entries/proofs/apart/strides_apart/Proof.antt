@@ -5,6 +5,7 @@ use mathlib.Core.Path.{_≡_}
 use mathlib.Core.Bool.{_||_}
 use Prim.Native.Nat.{_≤_}
 use native.Mathlib.Omega.{arith}
+use borrow.Author.Needs.{needs}
 use lib.Dec.{leb, ltb}
 use Rattle.words.specs.Sums.{every}
 use Rattle.words.proofs.Tabulate.{from, from-end, from-before}
@@ -28,11 +29,11 @@ loop-holds c = let all = c .before .args .x .letters in (omega arith, rw (from-e
 sub-i : tie.Need-sub-i Inv-loop μ-loop
 sub-i c = omega arith
 
-mul-c : tie.Need-mul-c Inv-loop μ-loop
-mul-c c = omega (arith, c .before .before .before .pre .spells .few)
-
 element-copy-out-c : tie.Need-element-copy-out-c Inv-loop μ-loop
 element-copy-out-c c = omega (arith, c .before .before .before .pre .spells .few)
+
+cast-c : tie.Need-cast-c Inv-loop μ-loop
+cast-c c = search needs
 
 extent-of-requires : tie.Need-extent-of-requires Inv-loop μ-loop
 extent-of-requires c κs = c .before .before .before .before .pre .checked .few
@@ -75,8 +76,8 @@ strides-apart-spec =
     μ-loop
     loop-holds
     sub-i
-    mul-c
     element-copy-out-c
+    cast-c
     extent-of-requires
     sum-below-requires
     stride-size-requires

@@ -5,6 +5,7 @@ use mathlib.Core.Path.{_≡_}
 use mathlib.Core.Bool.{not, cond, _&&_}
 use Prim.Native.Nat.{_*_, _-_, _^_, _≤_}
 use native.Mathlib.Omega.{arith}
+use borrow.Author.Needs.{needs}
 use lib.Dec.{eqb, leb}
 use Rattle.words.specs.Sums.{sumOf}
 use Rattle.words.proofs.Tabulate.{from, from-end, from-before}
@@ -33,11 +34,11 @@ loop-holds c = let all = c .before .args .x .letters in (omega arith, rw (from-e
 sub-i : tie.Need-sub-i Inv-loop μ-loop
 sub-i c = omega arith
 
-mul-share : tie.Need-mul-share Inv-loop μ-loop
-mul-share c = omega (arith, c .before .before .before .pre .spells .few)
-
 element-copy-out-share : tie.Need-element-copy-out-share Inv-loop μ-loop
 element-copy-out-share c = omega (arith, c .before .before .before .pre .spells .few)
+
+cast-share : tie.Need-cast-share Inv-loop μ-loop
+cast-share c = search needs
 
 share-requires : tie.Need-share-requires Inv-loop μ-loop
 share-requires c κs = c .before .before .before .before .pre .checked
@@ -72,8 +73,8 @@ sum-below-spec =
     μ-loop
     loop-holds
     sub-i
-    mul-share
     element-copy-out-share
+    cast-share
     share-requires
     add-sum
     loop-less

@@ -5,6 +5,7 @@
 use mathlib.Core.Path.{_≡_}
 use Prim.Native.Nat.{ℕ, _*_, _-_, _^_, _≤_, _<_}
 use native.Mathlib.Omega.{arith}
+use borrow.Author.Needs.{needs}
 use lib.Dec.{ltb}
 use lib.ListN.{getD}
 use Rattle.words.specs.Sums.{sumOf, every}
@@ -68,11 +69,11 @@ loop-holds c =
 sub-i : tie.Need-sub-i Inv-loop μ-loop
 sub-i c = omega arith
 
-mul-c : tie.Need-mul-c Inv-loop μ-loop
-mul-c c = omega (arith, c .before .before .before .pre .spells .few)
-
 element-copy-out-c : tie.Need-element-copy-out-c Inv-loop μ-loop
 element-copy-out-c c = omega (arith, c .before .before .before .pre .spells .few)
+
+cast-c : tie.Need-cast-c Inv-loop μ-loop
+cast-c c = search needs
 
 extent-of-requires : tie.Need-extent-of-requires Inv-loop μ-loop
 extent-of-requires c κs = c .before .before .before .before .pre .checked .few
@@ -120,8 +121,8 @@ reach-of-spec =
     μ-loop
     loop-holds
     sub-i
-    mul-c
     element-copy-out-c
+    cast-c
     extent-of-requires
     stride-of-requires
     with-requires

@@ -1,17 +1,10 @@
 -- `contraction_of` meets its contract: it makes the three layouts, and the contraction of them.
 -- Assumes nothing.
-use mathlib.Core.Path.{_≡_}
-use Prim.Native.Nat.{ℕ}
+use mathlib.Core.Bool.{false}
 use borrow.Author.Needs.{needs}
-use Rattle.layout.specs.declared.layout.Layout.{Layout}
-use Rattle.contraction.specs.declared.contraction.Contraction.{Contraction}
-use Rattle.contraction.specs.Operands.{contractionOf}
+use Rattle.flat.proofs.Made.{made}
 use Rattle.flat.proofs.contraction_of.contraction_of.Statement.{statement}
 use Rattle.flat.proofs.contraction_of.contraction_of.Tie as tie
-
--- the contraction that the code makes is the one of the layouts that were handed in
-made : {c : Contraction} {a a′ b b′ d d′ : Layout} (alpha beta : ℕ) → c ≡ contractionOf a b d alpha beta → a ≡ a′ → b ≡ b′ → d ≡ d′ → c ≡ contractionOf a′ b′ d′ alpha beta
-made alpha beta e ea eb ed = rw (e, ea, eb, ed)
 
 layout-of-requires : tie.Need-layout-of-requires
 layout-of-requires c κs = search needs
@@ -26,7 +19,9 @@ new-requires : tie.Need-new-requires
 new-requires c κs = search needs
 
 returns : tie.Need-returns
-returns c = made _ _ (c .new .ensures) (c .before .before .before .layout-of .ensures) (c .before .before .layout-of2 .ensures) (c .before .layout-of3 .ensures)
+returns c =
+    made false _ _ (c .new .ensures) (c .before .before .before .layout-of .ensures) (c .before .before .layout-of2 .ensures) (c .before .layout-of3 .ensures)
+    (c .before .layout-of3 .ensures)
 
 pub contraction-of-spec : {M : Type 1} → statement M
 contraction-of-spec =

@@ -12,7 +12,7 @@ use lib.Dec.{eqb, ltb}
 use lib.ListN.{length, getD, set, length-set}
 use Rattle.words.specs.Lists.{keep, cons-if}
 use Rattle.words.proofs.Tabulate.{from, from-end, from-next}
-use Rattle.limits.specs.Limits.{axesLimit}
+use Rattle.limits.specs.Limits.{labelsLimit}
 use Rattle.labels.specs.LetterSets.{has}
 use Rattle.groups.specs.declared.groups.Dim.{Dim}
 use Rattle.groups.specs.Groups.{Label}
@@ -73,7 +73,7 @@ not-above false n = omega arith
 
 abbrev Inv-loop : tie.InvT-loop
 Inv-loop set g count out₀ n₀ i₀ out n i =
-    (i ≤ count) × (n ≤ i) × (length (out .dims) ≡ axesLimit)
+    (i ≤ count) × (n ≤ i) × (length (out .dims) ≡ labelsLimit)
     × Folding (labelsIn (holding (out .dims) n)) (rest (inSet set) (g .dims) count i) (rest (inSet set) (g .dims) count 0)
 
 abbrev μ-loop : tie.MeasureT-loop

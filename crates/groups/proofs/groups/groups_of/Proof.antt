@@ -1,7 +1,7 @@
 -- `groups_of` meets its contract: of the letters of all tensors, each set has just those of its group.
 -- Assumes nothing.
 use borrow.Author.Needs.{needs}
-use Rattle.contraction.specs.Operands.{A, B, D, three}
+use Rattle.contraction.specs.TensorAxes.{labelledIn}
 use Rattle.groups.proofs.Sets.{kept-group}
 use Rattle.groups.proofs.groups.groups_of.Statement.{statement}
 use Rattle.groups.proofs.groups.groups_of.Tie as tie
@@ -15,8 +15,7 @@ returns c =
     let x = s .args .x in
     record {
       labels =
-          kept-group x (s .pre) (three (x .a .letters) (x .b .letters) (x .d .letters))
-          (elim [ A ↦ s .pre .each A .spells | B ↦ s .pre .each B .spells | D ↦ s .pre .each D .spells ]) (c .sets-of .result) (c .sets-of .ensures);
+          kept-group x (s .pre) (λ o. labelledIn x o .letters) (λ o. s .pre .each o .spells) (c .sets-of .result) (c .sets-of .ensures);
     }
 
 pub groups-of-spec : {M : Type 1} → statement M

@@ -20,7 +20,7 @@ returns c =
       batch = λ k. rw (has-and, has-and);
       column = λ k. rw (has-and, has-and, has-not a k (c .fits .a .fits));
       row = λ k. rw (has-and d ((2 ^ 64 - 1) - bitOr three two) k, has-not (bitOr three two) k (or-lt 64 three two fits-three fits-two), has-or three two k);
-      depth = λ k. rw (has-and, has-or, has-not d k (c .fits .d .fits));
+      depth = λ k. has-not d k (c .fits .d .fits);
     }
 
 pub sets-of-spec : {M : Type 1} → statement M

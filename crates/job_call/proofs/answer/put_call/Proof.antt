@@ -13,7 +13,7 @@ use Rattle.job_call.proofs.answer.put_call.Tie as tie
 
 -- back to the start, once the tiles are run
 abbrev start : tie.After-run → tie.Start
-start c = c .before .before .before .before .before .before .before
+start c = c .before .before .before .before .before .before .before .before
 
 slice-aggregate-run : tie.Need-slice-aggregate-run
 slice-aggregate-run c = sym (length-replicate {A = ℕ} workRoom 0)
@@ -30,8 +30,8 @@ put-ran-requires c κs =
     let r = o .before .before .before .before .before in
     let s = start r in
     let x = s .args in
-    let kept = r .run .kept .1 .1 .1 .1 .0 in (
-      ran-asks (x .c) (x .z) (now (x .a)) (now (x .b)) (now (x .d)) (x .done) (x .budget) (r .run .ensures) (o .outcome .given .1) kept,
+    let kept = r .run .kept .1 .1 .1 .1 .1 .0 in (
+      ran-asks (x .k) (x .z) (now (x .a)) (now (x .b)) (now (x .c)) (now (x .d)) (x .done) (x .budget) (r .run .ensures) (o .outcome .given .1) kept,
       subst (λ (n : ℕ). n ≤ jobLimit) (sym kept) (s .pre .0),
       s .pre .1,
     )
@@ -43,10 +43,10 @@ put-refused-requires : tie.Need-put-refused-requires
 put-refused-requires c κs = refused-room (start (c .before .before .before .before .before .before .before) .pre .1)
 
 same-length : tie.Need-same-length
-same-length c = c .before .before .before .before .before .before .before .before .before .before .before .run .kept .1 .1 .1 .1 .0
+same-length c = c .before .before .before .before .before .before .before .before .before .before .before .run .kept .1 .1 .1 .1 .1 .0
 
 same-length-2 : tie.Need-same-length-2
-same-length-2 c = c .before .before .put-ran .kept .1 .1 .1 .1 .1 .1 .0
+same-length-2 c = c .before .before .put-ran .kept .1 .1 .1 .1 .1 .1 .1 .0
 
 returns : tie.Need-returns
 returns c =
@@ -55,11 +55,11 @@ returns c =
     let r = o .before .before .before .before .before in
     let x = start r .args in
     put-as (now (x .out))
-    (ran-text (x .c) (x .z) (now (x .a)) (now (x .b)) (now (x .d)) (x .done) (x .budget) (r .run .ensures) (o .outcome .given .1) (r .run .kept .1 .1 .1 .1 .0))
+    (ran-text (x .k) (x .z) (now (x .a)) (now (x .b)) (now (x .c)) (now (x .d)) (x .done) (x .budget) (r .run .ensures) (o .outcome .given .1) (r .run .kept .1 .1 .1 .1 .1 .0))
     (p .put-ran .ensures)
 
 same-length-3 : tie.Need-same-length-3
-same-length-3 c = c .before .before .before .before .before .before .before .before .before .before .run .kept .1 .1 .1 .1 .0
+same-length-3 c = c .before .before .before .before .before .before .before .before .before .before .run .kept .1 .1 .1 .1 .1 .0
 
 same-length-4 : tie.Need-same-length-4
 same-length-4 c = c .before .before .put-refused .kept .0
@@ -71,7 +71,7 @@ returns-2 c =
     let r = o .before .before .before .before .before in
     let x = start r .args in
     put-as (now (x .out))
-    (refused-text (x .c) (x .z) (now (x .a)) (now (x .b)) (now (x .d)) (x .done) (x .budget) (r .run .ensures) (o .outcome2 .given .1))
+    (refused-text (x .k) (x .z) (now (x .a)) (now (x .b)) (now (x .c)) (now (x .d)) (x .done) (x .budget) (r .run .ensures) (o .outcome2 .given .1))
     (p .put-refused .ensures)
 
 pub put-call-spec : {M : Type 1} → statement M

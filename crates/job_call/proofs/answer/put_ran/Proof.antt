@@ -11,10 +11,10 @@ use Rattle.job_call.proofs.answer.put_ran.Statement.{statement}
 use Rattle.job_call.proofs.answer.put_ran.Tie as tie
 
 abbrev start : tie.After-letters → tie.Start
-start c = c .before .before .before .before .before
+start c = c .before .before .before .before .before .before
 
 array-borrow-prefix-letters : tie.Need-array-borrow-prefix-letters
-array-borrow-prefix-letters c = c .before .before .before .before .pre .1
+array-borrow-prefix-letters c = c .before .before .before .before .before .pre .1
 
 slice-aggregate-letters-after : tie.Need-slice-aggregate-letters-after
 slice-aggregate-letters-after c = sym (lent-length 0 (start c .pre .1))
@@ -23,8 +23,8 @@ letters-after-requires : tie.Need-letters-after-requires
 letters-after-requires c κs = (start c .pre .0, lent-length 0 (start c .pre .1))
 
 -- the letters that were put
-put : (c : tie.After-letters-after) → CameBack (length (now (start (c .before) .args .d))) jobLimit 0 (c .letters-after .last .1 .1 .1 .1 .1 .1 .0)
-put c = came-back (start (c .before) .pre .1) (c .letters-after .kept .1 .1 .1 .1 .1 .1 .0)
+put : (c : tie.After-letters-after) → CameBack (length (now (start (c .before) .args .d))) jobLimit 0 (c .letters-after .last .1 .1 .1 .1 .1 .1 .1 .0)
+put c = came-back (start (c .before) .pre .1) (c .letters-after .kept .1 .1 .1 .1 .1 .1 .1 .0)
 
 array-share-prefix-letters : tie.Need-array-share-prefix-letters
 array-share-prefix-letters c = put (c .before .before) .room

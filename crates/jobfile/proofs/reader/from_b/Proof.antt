@@ -14,8 +14,8 @@ tensor-records-requires c κs = search needs
 enum-known-read : tie.Need-enum-known-read
 enum-known-read c = search needs
 
-from-d-requires : tie.Need-from-d-requires
-from-d-requires c κs =
+from-c-requires : tie.Need-from-c-requires
+from-c-requires c κs =
     let r = c .before .before .before in
     let held = got-held (r .tensor-records .ensures) (ap tensorParts (c .before .read .given .1)) in
     (r .before .before .pre .0, held .0, held .1)
@@ -25,7 +25,7 @@ enum-known-read-2 c = search needs
 
 returns : tie.Need-returns
 unfolding fromB
-returns c = goes-on (c .before .before .before .before .tensor-records .ensures) _ (ap tensorParts (c .before .before .read .given .1)) (c .from-d .ensures)
+returns c = goes-on (c .before .before .before .before .tensor-records .ensures) _ (ap tensorParts (c .before .before .read .given .1)) (c .from-c .ensures)
 
 returns-2 : tie.Need-returns-2
 unfolding fromB
@@ -37,7 +37,7 @@ from-b-spec =
     (tie.spec
     tensor-records-requires
     enum-known-read
-    from-d-requires
+    from-c-requires
     enum-known-read-2
     returns
     returns-2)

@@ -35,14 +35,22 @@ returns-10 : tie.Need-returns-10
 returns-10 c = rw (c .match .keys10)
 
 returns-11 : tie.Need-returns-11
-returns-11 c =
+returns-11 c = rw (c .match .keys11)
+
+returns-12 : tie.Need-returns-12
+returns-12 c = rw (c .match .keys12)
+
+returns-13 : tie.Need-returns-13
+returns-13 c =
     let bytes = c .match .rest .0 in
     let words = bytes .0 .0 .0 in
-    let layouts = words .0 .0 .0 in
+    let layouts = words .0 .0 .0 .0 in
     simp (
+      ne-eqb _ _ (layouts .0 .0 .0 .1),
       ne-eqb _ _ (layouts .0 .0 .1),
       ne-eqb _ _ (layouts .0 .1),
       ne-eqb _ _ (layouts .1),
+      ne-eqb _ _ (words .0 .0 .0 .1),
       ne-eqb _ _ (words .0 .0 .1),
       ne-eqb _ _ (words .0 .1),
       ne-eqb _ _ (words .1),
@@ -66,4 +74,6 @@ kind-of-spec =
     returns-8
     returns-9
     returns-10
-    returns-11)
+    returns-11
+    returns-12
+    returns-13)

@@ -5,7 +5,6 @@ use mathlib.Core.Path.{_≡_, refl, ap, sym, _∙_}
 use mathlib.Core.Bool.{Bool, true, false, _&&_, true≢false}
 use mathlib.Core.List.{List}
 use Prim.Native.Nat.{ℕ, _+_, _-_, _<_, _≤_}
-use native.Mathlib.Numerals.{add-one}
 use native.Mathlib.Omega.{arith}
 use borrow.Author.Needs.{needs}
 use borrow.Author.Tests.{leb-true}
@@ -14,18 +13,13 @@ use mir.Val.{Fits}
 use lib.Dec.{leb, lit<}
 use lib.ListN.{length}
 use Rattle.words.specs.Loops.{each}
-use Rattle.words.proofs.Loops.{each-add}
+use Rattle.words.proofs.Loops.{each-next, each-add}
 use Rattle.limits.specs.Limits.{blockLimit}
 use Rattle.block.specs.Places.{placeOf}
 use Rattle.multiply.specs.Stored.{columnStored}
 use Rattle.multiply.proofs.Stores.{few-columns, short, short-before, summable, storable, next-column, column-stored}
 use Rattle.multiply.proofs.multiply.all_columns.Statement.{statement}
 use Rattle.multiply.proofs.multiply.all_columns.Tie as tie
-
--- one turn more
-turn-one : (body : ℕ → List ℕ → List ℕ) (c : ℕ) (d₀ : List ℕ) {d e : List ℕ} → d ≡ each c body d₀ → e ≡ body c d → e ≡ each (c + 1) body d₀
-unfolding each
-turn-one body c d₀ i j = rw add-one (j ∙ ap (body c) i)
 
 -- four turns more
 turn-four : (body : ℕ → List ℕ → List ℕ) (c : ℕ) (d₀ : List ℕ) {d e : List ℕ} → d ≡ each c body d₀ → e ≡ each 4 (λ q. body (c + q)) d → e ≡ each (c + 4) body d₀
@@ -148,7 +142,7 @@ loop-again-2 c =
     let r = c .before .before .store-next in
     let at = l .inv .2 (turn i) in
     let e = r .ensures .0 ∙ column-stored (a .work .now) (a .p) (a .f) (a .t .from) (a .columns .now) (a .rows .now) (a .t .rows) (l .c) (l .d) refl at (c .before .before .before .before .column .ensures) in
-    (turn-in i, r .kept .0 ∙ l .inv .1, λ h. next-column (s .pre) (l .c) (l .c + 1) refl h at (r .ensures .1), turn-one (stores s) (l .c) (a .d .now) (l .inv .3) e)
+    (turn-in i, r .kept .0 ∙ l .inv .1, λ h. next-column (s .pre) (l .c) (l .c + 1) refl h at (r .ensures .1), each-next (stores s) (l .c) (a .d .now) (l .inv .3) e)
 
 same-length : tie.Need-same-length Inv-loop μ-loop
 same-length c = c .before .loop .inv .1

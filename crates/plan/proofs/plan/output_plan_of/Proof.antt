@@ -5,12 +5,12 @@ use Rattle.contraction.specs.Operands.{D}
 use Rattle.groups.specs.Groups.{depth, group, outputs}
 use Rattle.groups.specs.Held.{labelsIn}
 use Rattle.groups.proofs.Sets.{kept-output}
-use Rattle.plan.proofs.GroupsFoldable.{fold-asks, fold-gives}
+use Rattle.plan.proofs.GroupsFoldable.{labels-fit, fold-asks, fold-gives}
 use Rattle.plan.proofs.plan.output_plan_of.Statement.{statement}
 use Rattle.plan.proofs.plan.output_plan_of.Tie as tie
 
 labels-of-requires : tie.Need-labels-of-requires
-labels-of-requires c κs = search needs
+labels-of-requires c κs = (c .pre .0 .gathered, labels-fit (c .args .c) (c .args .x) (c .pre .0) (c .pre .1))
 
 groups-of-requires : tie.Need-groups-of-requires
 groups-of-requires c κs = search needs

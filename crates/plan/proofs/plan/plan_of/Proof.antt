@@ -4,7 +4,7 @@ use mathlib.Core.Path.{_≡_}
 use Prim.Native.Nat.{ℕ, _≤_}
 use borrow.Author.Needs.{needs}
 use Rattle.words.specs.Lists.{keep}
-use Rattle.limits.specs.Limits.{axesLimit}
+use Rattle.limits.specs.Limits.{labelsLimit}
 use Rattle.labels.specs.LetterSets.{has}
 use Rattle.contraction.specs.Operands.{tensors, shape}
 use Rattle.groups.specs.declared.groups.Group.{Group as GroupCode}
@@ -13,19 +13,19 @@ use Rattle.groups.specs.Held.{labelsIn}
 use Rattle.groups.specs.Sets.{setsIn}
 use Rattle.groups.specs.Foldable.{Foldable}
 use Rattle.folding.specs.Fold.{fold}
-use Rattle.plan.proofs.GroupsFoldable.{fold-asks, fold-gives}
+use Rattle.plan.proofs.GroupsFoldable.{labels-fit, fold-asks, fold-gives}
 use Rattle.plan.proofs.plan.plan_of.Statement.{statement}
 use Rattle.plan.proofs.plan.plan_of.Tie as tie
 
 labels-of-requires : tie.Need-labels-of-requires
-labels-of-requires c κs = search needs
+labels-of-requires c κs = (c .pre .0 .gathered, labels-fit (c .args .c) (c .args .x) (c .pre .0) (c .pre .1))
 
 groups-of-requires : tie.Need-groups-of-requires
 groups-of-requires c κs = search needs
 
 -- what `folded` asks of a set, and what it gives
 asks : (c : tie.After-groups-of) (set : ℕ)
-    → (c .before .labels-of .result .count ≤ axesLimit) × Foldable (keep (λ l. has set (l .letter)) (labelsIn (c .before .labels-of .result)))
+    → (c .before .labels-of .result .count ≤ labelsLimit) × Foldable (keep (λ l. has set (l .letter)) (labelsIn (c .before .labels-of .result)))
 asks c set =
     let s = c .before .before in
     let l = c .before .labels-of in

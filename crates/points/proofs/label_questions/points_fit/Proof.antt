@@ -7,6 +7,7 @@ use mathlib.Core.Bool.{Bool, true, false, not}
 use Prim.Native.Nat.{ℕ, _+_, _*_, _-_, _≤_, _<_, min, max}
 use native.Mathlib.Nat.{min-le-left, min-eq-left, min-eq-right, mul-le-mul-right, le-max-left}
 use native.Mathlib.Omega.{arith}
+use borrow.Author.Needs.{needs}
 use borrow.Author.Tests.{le-leb, lt-leb}
 use lib.Dec.{T, leb, leb→le, nleb→lt}
 use lib.ListN.{getD}
@@ -64,21 +65,21 @@ loop-holds c =
 sub-i : tie.Need-sub-i Inv-loop μ-loop
 sub-i c = omega arith
 
-mul-extent : tie.Need-mul-extent Inv-loop μ-loop
-mul-extent c = omega (arith, c .before .before .before .pre .all .few)
+element-copy-out-wide : tie.Need-element-copy-out-wide Inv-loop μ-loop
+element-copy-out-wide c = omega (arith, c .before .before .before .pre .all .few)
 
-element-copy-out-extent : tie.Need-element-copy-out-extent Inv-loop μ-loop
-element-copy-out-extent c = omega (arith, c .before .before .before .pre .all .few)
+wide-requires : tie.Need-wide-requires Inv-loop μ-loop
+wide-requires c κs = tt
 
 extent-requires : tie.Need-extent-requires Inv-loop μ-loop
-extent-requires c κs = c .before .before .before .before .pre
+extent-requires c κs = c .before .before .before .before .before .pre
 
 counted-requires : tie.Need-counted-requires Inv-loop μ-loop
 counted-requires c κs = tt
 
 capped-requires : tie.Need-capped-requires Inv-loop μ-loop
 capped-requires c κs =
-    let l = c .before .before .before .before .loop in
+    let l = c .before .before .before .before .before .loop in
     rw (l .inv .1) (min-le-left (productLimit + 1) _)
 
 loop-less : tie.Need-loop-less Inv-loop μ-loop
@@ -86,13 +87,14 @@ loop-less c = omega arith
 
 loop-again : tie.Need-loop-again Inv-loop μ-loop
 loop-again c =
-    let l = c .before .before .before .before .before .loop in
-    let all = c .before .before .before .before .before .before .before .args .x .letters in (
+    let l = c .before .before .before .before .before .before .loop in
+    let all = c .before .before .before .before .before .before .before .before .args .x .letters in (
       omega arith,
       rw (
         c .capped .ensures,
         c .before .counted .ensures,
         c .before .before .extent .ensures,
+        c .before .before .before .wide .ensures,
         l .inv .1,
         from-before 0 (all .letters) (all .count) (l .i) (omega arith) (omega arith),
       )
@@ -116,8 +118,8 @@ points-fit-spec =
     μ-loop
     loop-holds
     sub-i
-    mul-extent
-    element-copy-out-extent
+    element-copy-out-wide
+    wide-requires
     extent-requires
     counted-requires
     capped-requires

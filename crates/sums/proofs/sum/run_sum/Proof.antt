@@ -6,16 +6,12 @@ use mathlib.Core.List.{List}
 use Prim.Native.Nat.{ℕ, _+_, _*_, _-_, _^_, _≤_, _<_}
 use native.Mathlib.Numerals.{add-one}
 use native.Mathlib.Omega.{arith}
-use lib.Dec.{lit<}
 use lib.ListN.{getD}
 use Rattle.words.specs.Words.{word}
 use Rattle.words.specs.Sums.{sumTo}
 use Rattle.words.specs.Loops.{Within}
 use Rattle.words.proofs.Modular.{word-sum}
-use Rattle.contraction.specs.Operands.{A, B}
-use Rattle.offsets.specs.Offsets.{wordsIn}
-use Rattle.offsets.proofs.OwnedWords.{words-fit}
-use Rattle.sums.specs.Walk.{stepped, steps, dot}
+use Rattle.sums.specs.Walk.{stepped, dot}
 use Rattle.sums.proofs.sum.run_sum.Statement.{statement}
 use Rattle.sums.proofs.sum.run_sum.Tie as tie
 
@@ -38,42 +34,29 @@ unfolding dot
 turn a b f g v ei ej es ep er = rw (er, es, ep, ei, ej, add-one) (word-sum 32 v (λ k. getD a (f k) 0 * getD b (g k) 0))
 
 abbrev Inv-loop : tie.InvT-loop
-Inv-loop a b len step-a step-b i₀ j₀ sum₀ v₀ i j sum v =
-    (v ≤ len) × (i ≡ stepped i₀ step-a v) × (j ≡ stepped j₀ step-b v) × (sum ≡ word 32 (dot v (stepped i₀ step-a) a (stepped j₀ step-b) b))
+Inv-loop a b from-a from-b step-a step-b len i₀ j₀ sum₀ v₀ i j sum v =
+    (v ≤ len) × (i ≡ stepped from-a step-a v) × (j ≡ stepped from-b step-b v) × (sum ≡ word 32 (dot v (stepped from-a step-a) a (stepped from-b step-b) b))
 
 abbrev μ-loop : tie.MeasureT-loop
-μ-loop a b len step-a step-b i₀ j₀ sum₀ v₀ i j sum v = len - v
-
-element-copy-out-step-a : tie.Need-element-copy-out-step-a Inv-loop μ-loop
-element-copy-out-step-a c = lit< tt
-
-element-copy-out-step-b : tie.Need-element-copy-out-step-b Inv-loop μ-loop
-element-copy-out-step-b c = lit< tt
-
-element-copy-out-i : tie.Need-element-copy-out-i Inv-loop μ-loop
-element-copy-out-i c = lit< tt
-
-element-copy-out-j : tie.Need-element-copy-out-j Inv-loop μ-loop
-element-copy-out-j c = lit< tt
+μ-loop a b from-a from-b step-a step-b len i₀ j₀ sum₀ v₀ i j sum v = len - v
 
 loop-holds : tie.Need-loop-holds Inv-loop μ-loop
 unfolding dot sumTo
 loop-holds c =
-    let s = c .before .before .before .before .before .before in
-    let fits = words-fit (s .args .t3 .words) _ (s .good .1 .1 .0 .1 .1 .0 .1 .1) in
-    (omega arith, at-first (wordsIn (s .args .t4) A) (fits 0), at-first (wordsIn (s .args .t4) B) (fits 1), refl)
+    let s = c .before .before in
+    (omega arith, at-first (s .args .step-a) (s .fits .from-a .fits), at-first (s .args .step-b) (s .fits .from-b .fits), refl)
 
 mul-mul : tie.Need-mul-mul Inv-loop μ-loop
-mul-mul c = omega (arith, placed (c .before .before .before .before .before .before .before .before .pre .inA) (c .before .loop .inv .1) (c .loop-test .taken))
+mul-mul c = omega (arith, placed (c .before .before .before .before .pre .inA) (c .before .loop .inv .1) (c .loop-test .taken))
 
 shared-slice-read-mul : tie.Need-shared-slice-read-mul Inv-loop μ-loop
-shared-slice-read-mul c = placed (c .before .before .before .before .before .before .before .before .before .pre .inA) (c .before .before .loop .inv .1) (c .before .loop-test .taken)
+shared-slice-read-mul c = placed (c .before .before .before .before .before .pre .inA) (c .before .before .loop .inv .1) (c .before .loop-test .taken)
 
 mul-mul-2 : tie.Need-mul-mul-2 Inv-loop μ-loop
-mul-mul-2 c = omega (arith, placed (c .before .before .before .before .before .before .before .before .before .pre .inB) (c .before .before .loop .inv .2) (c .before .loop-test .taken))
+mul-mul-2 c = omega (arith, placed (c .before .before .before .before .before .pre .inB) (c .before .before .loop .inv .2) (c .before .loop-test .taken))
 
 shared-slice-read-mul-2 : tie.Need-shared-slice-read-mul-2 Inv-loop μ-loop
-shared-slice-read-mul-2 c = placed (c .before .before .before .before .before .before .before .before .before .before .pre .inB) (c .before .before .before .loop .inv .2) (c .before .before .loop-test .taken)
+shared-slice-read-mul-2 c = placed (c .before .before .before .before .before .before .pre .inB) (c .before .before .before .loop .inv .2) (c .before .before .loop-test .taken)
 
 mul-requires : tie.Need-mul-requires Inv-loop μ-loop
 mul-requires c κs = tt
@@ -95,19 +78,19 @@ loop-less c = omega arith
 
 loop-again : tie.Need-loop-again Inv-loop μ-loop
 loop-again c =
-    let s = c .before .before .before .before .before .before .before .before .before .before .before .before .before .before .args in
+    let s = c .before .before .before .before .before .before .before .before .before .before .args in
     let l = c .before .before .before .before .before .before .before .loop in (
       omega arith,
-      next (wordsIn (s .t3) A) (wordsIn (s .t4) A) (l .v) (l .inv .1) (c .before .wrapping-add-u64 .ensures),
-      next (wordsIn (s .t3) B) (wordsIn (s .t4) B) (l .v) (l .inv .2) (c .wrapping-add-u642 .ensures),
-      turn (s .a .now) (s .b .now) (λ k. steps (s .t3) (s .t4) k A) (λ k. steps (s .t3) (s .t4) k B) (l .v)
+      next (s .from-a) (s .step-a) (l .v) (l .inv .1) (c .before .wrapping-add-u64 .ensures),
+      next (s .from-b) (s .step-b) (l .v) (l .inv .2) (c .wrapping-add-u642 .ensures),
+      turn (s .a .now) (s .b .now) (stepped (s .from-a) (s .step-a)) (stepped (s .from-b) (s .step-b)) (l .v)
           (l .inv .1) (l .inv .2) (l .inv .3) (c .before .before .before .mul .ensures) (c .before .before .wrapping-add-u32 .ensures),
     )
 
 returns : tie.Need-returns Inv-loop μ-loop
 returns c =
     let l = c .before .loop in
-    let z : l .v ≡ c .before .before .before .before .before .before .before .before .args .len = omega arith in
+    let z : l .v ≡ c .before .before .before .before .args .len = omega arith in
     rw z at (l .inv .3)
 
 pub run-sum-spec : {M : Type 1} → statement M
@@ -116,10 +99,6 @@ run-sum-spec =
     (tie.spec
     Inv-loop
     μ-loop
-    element-copy-out-step-a
-    element-copy-out-step-b
-    element-copy-out-i
-    element-copy-out-j
     loop-holds
     mul-mul
     shared-slice-read-mul

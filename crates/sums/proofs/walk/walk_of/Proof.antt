@@ -7,7 +7,7 @@ use Prim.Native.Nat.{ℕ, _*_, _≤_, _<_}
 use native.Mathlib.Omega.{arith}
 use borrow.Author.Needs.{needs}
 use lib.ListN.{drop}
-use Rattle.limits.specs.Limits.{axesLimit}
+use Rattle.limits.specs.Limits.{labelsLimit}
 use Rattle.groups.specs.declared.groups.Group.{Group}
 use Rattle.groups.specs.Groups.{Label, size}
 use Rattle.groups.specs.Held.{labelsIn}
@@ -27,7 +27,7 @@ no-label : (g : Group) → g .count ≡ 0 → labelsIn g ≡ []
 unfolding labelsIn
 no-label g e = rw e
 
-walks : (g : Group) (l : FirstLabel) (runs : ℕ) → g .count ≤ axesLimit → Foldable (labelsIn g) → FirstLabelOf (labelsIn g) l
+walks : (g : Group) (l : FirstLabel) (runs : ℕ) → g .count ≤ labelsLimit → Foldable (labelsIn g) → FirstLabelOf (labelsIn g) l
     → l .len * runs ≡ l .len * size (drop 1 (labelsIn g)) → (0 < runs → 0 < l .len)
     → Walks (labelsIn g) (record { group = g; step = l .step; len = l .len; runs = runs })
 walks g l runs few foldable is-first e long =

@@ -2,6 +2,7 @@
 -- and the work slice holds the blocks of the last one. A turn runs tile t. The measure is how many are left.
 -- Assumes nothing.
 use mathlib.Core.Path.{_≡_, ap, sym, _∙_, subst}
+use mathlib.Core.Bool.{Bool}
 use mathlib.Core.List.{List, [], _∷_, _++_}
 use Prim.Native.Nat.{ℕ, suc, _+_, _-_, _≤_}
 use native.Mathlib.Omega.{arith}
@@ -23,9 +24,9 @@ use Rattle.tiling.proofs.run_tiles.run_tiles.Statement.{statement}
 use Rattle.tiling.proofs.run_tiles.run_tiles.Tie as tie
 
 -- the tiles from `done` up to t were run
-module _ (p : Plan) (G : Cut) (alpha beta : ℕ) (a b : List ℕ) (done : ℕ) (d₀ work₀ : List ℕ) where
+module _ (p : Plan) (G : Cut) (named : Bool) (alpha beta : ℕ) (a b c : List ℕ) (done : ℕ) (d₀ work₀ : List ℕ) where
   abbrev S : Setting
-  S = planSetting p G alpha beta a b
+  S = planSetting p G named alpha beta a b c
 
   record Run (t : ℕ) (d work : List ℕ) : Type 0 where
     from : done ≤ t
@@ -61,25 +62,25 @@ module _ (p : Plan) (G : Cut) (alpha beta : ℕ) (a b : List ℕ) (done : ℕ) (
       }
 
 abbrev Inv-loop : tie.InvT-loop
-Inv-loop p g alpha beta a b d₀ work₀ done count end t₀ d work t = (t ≤ end) × Run p (cutIn g) alpha beta a b done d₀ work₀ t d work
+Inv-loop p g named alpha beta a b c d₀ work₀ done count end t₀ d work t = (t ≤ end) × Run p (cutIn g) named alpha beta a b c done d₀ work₀ t d work
 
 abbrev μ-loop : tie.MeasureT-loop
-μ-loop p g alpha beta a b d₀ work₀ done count end t₀ d work t = end - t
+μ-loop p g named alpha beta a b c d₀ work₀ done count end t₀ d work t = end - t
 
 add-end : tie.Need-add-end Inv-loop μ-loop
-add-end c = let q = c .before .before .before .before .pre in omega (arith, sumOf-small (q .0 .counted .fits))
+add-end c = let q = c .before .before .before .before .before .pre in omega (arith, sumOf-small (q .0 .counted .fits))
 
 loop-holds : tie.Need-loop-holds Inv-loop μ-loop
-loop-holds c = (omega arith, none _ _ _ _ _ _ _ _ _)
+loop-holds c = (omega arith, none _ _ _ _ _ _ _ _ _ _ _)
 
 run-tile-requires : tie.Need-run-tile-requires Inv-loop μ-loop
 run-tile-requires c κs =
-    let q = c .before .before .before .before .before .before .before .before .pre in
+    let q = c .before .before .before .before .before .before .before .before .before .pre in
     let r = c .before .before .before .loop .inv .1 in
-    (q .0, omega arith, subst (Clear _ _ _ _) (sym (same-d _ _ _ _ _ _ _ _ _ r)) (q .2), omega (arith, same-work _ _ _ _ _ _ _ _ _ (q .3) r))
+    (q .0, omega arith, subst (Clear _ _ _ _ _ _) (sym (same-d _ _ _ _ _ _ _ _ _ _ _ r)) (q .2), omega (arith, same-work _ _ _ _ _ _ _ _ _ _ _ (q .3) r))
 
 add-t : tie.Need-add-t Inv-loop μ-loop
-add-t c = let q = c .before .before .before .before .before .before .before .before .before .before .before .before .before .pre in omega (arith, sumOf-small (q .0 .counted .fits))
+add-t c = let q = c .before .before .before .before .before .before .before .before .before .before .before .before .before .before .pre in omega (arith, sumOf-small (q .0 .counted .fits))
 
 loop-less : tie.Need-loop-less Inv-loop μ-loop
 loop-less c = omega arith
@@ -87,18 +88,18 @@ loop-less c = omega arith
 loop-again : tie.Need-loop-again Inv-loop μ-loop
 loop-again c =
     let r = c .before .before .before .before .run-tile .ensures in
-    (omega arith, next _ _ _ _ _ _ _ _ _ (c .before .before .before .before .before .before .before .before .loop .inv .1) (r .0) (r .1))
+    (omega arith, next _ _ _ _ _ _ _ _ _ _ _ (c .before .before .before .before .before .before .before .before .loop .inv .1) (r .0) (r .1))
 
 same-length : tie.Need-same-length Inv-loop μ-loop
-same-length c = same-d _ _ _ _ _ _ _ _ _ (c .before .loop .inv .1)
+same-length c = same-d _ _ _ _ _ _ _ _ _ _ _ (c .before .loop .inv .1)
 
 same-length-2 : tie.Need-same-length-2 Inv-loop μ-loop
-same-length-2 c = same-work _ _ _ _ _ _ _ _ _ (c .before .before .before .before .before .before .pre .3) (c .before .loop .inv .1)
+same-length-2 c = same-work _ _ _ _ _ _ _ _ _ _ _ (c .before .before .before .before .before .before .before .pre .3) (c .before .loop .inv .1)
 
 returns : tie.Need-returns Inv-loop μ-loop
 unfolding tilesFrom
 returns c =
-    let s = c .before .before .before .before .before .before .args in
+    let s = c .before .before .before .before .before .before .before .args in
     let r = c .before .loop .inv .1 in
     let e : c .before .loop .t - s .done ≡ s .count = omega arith in
     (omega (arith, length-tabulate (s .count) (λ k. s .done + k)), rw e at (r .words), rw e at (r .blocks))

@@ -60,11 +60,11 @@ no-requires c κs = search needs
 -- the number is that of questions 1 to 10
 ten : (c : tie.After-size-refusal)
     → let a = c .before .before .args in
-    c .size-refusal .result ≡ refusal (layoutQuestions (tensors (a .c)) (lengths (a .n)) ++ sizeQuestion (a .z))
+    c .size-refusal .result ≡ refusal (layoutQuestions (tensors (a .c)) (lengths (a .c) (a .n)) ++ sizeQuestion (a .z))
 ten c =
     let a = c .before .before .args in
     c .size-refusal .ensures
-    ∙ behind (layoutQuestions (tensors (a .c)) (lengths (a .n))) (sizeQuestion (a .z)) (numbered (a .c) (lengths (a .n))) (c .before .first-no .ensures .number)
+    ∙ behind (layoutQuestions (tensors (a .c)) (lengths (a .c) (a .n))) (sizeQuestion (a .z)) (numbered (a .c) (lengths (a .c) (a .n))) (c .before .first-no .ensures .number)
 
 returns : tie.Need-returns
 returns c =
@@ -75,8 +75,8 @@ plan-of-requires c κs =
     let k = c .before in
     let a = k .before .before .args in
     let z = sym (ten k) ∙ c .if1 .left in (
-      k .before .first-no .ensures .lists (k .before .first-no .ensures .number ∙ nine (a .c) (lengths (a .n)) (a .z) z),
-      all-foldable (tensors (a .c)) (lengths (a .n)) (all-passed (a .c) (lengths (a .n)) (a .z) z),
+      k .before .first-no .ensures .lists (k .before .first-no .ensures .number ∙ nine (a .c) (lengths (a .c) (a .n)) (a .z) z),
+      all-foldable (tensors (a .c)) (lengths (a .c) (a .n)) (all-passed (a .c) (lengths (a .c) (a .n)) (a .z) z),
     )
 
 grid-of-requires : tie.Need-grid-of-requires
@@ -84,8 +84,8 @@ grid-of-requires c κs =
     let k = c .before .before in
     let a = k .before .before .args in
     let z = sym (ten k) ∙ c .before .if1 .left in
-    plan-fits (a .c) (lengths (a .n)) (all-passed (a .c) (lengths (a .n)) (a .z) z) (c .plan-of .result) (c .plan-of .ensures) (a .z)
-    (sizes-pass (a .c) (lengths (a .n)) (a .z) z)
+    plan-fits (a .c) (lengths (a .c) (a .n)) (all-passed (a .c) (lengths (a .c) (a .n)) (a .z) z) (c .plan-of .result) (c .plan-of .ensures) (a .z)
+    (sizes-pass (a .c) (lengths (a .c) (a .n)) (a .z) z)
 
 returns-2 : tie.Need-returns-2
 returns-2 c = record { number = ten (c .before .before .before); plan = λ z. c .before .plan-of .ensures; grid = λ z. c .grid-of .ensures }

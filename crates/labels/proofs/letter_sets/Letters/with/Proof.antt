@@ -10,9 +10,9 @@ use lib.ListN.{length, length-map}
 use Rattle.words.specs.Lists.{member}
 use Rattle.words.proofs.Tabulate.{firstOf-push}
 use Rattle.words.proofs.Lists.{member-append}
-use Rattle.limits.specs.Limits.{axesLimit}
+use Rattle.limits.specs.Limits.{lettersLimit}
 use Rattle.labels.specs.LetterSets.{spelled}
-use Rattle.labels.proofs.Spelling.{same-letter}
+use Rattle.labels.proofs.Spelling.{letter-code, same-letter}
 use Rattle.labels.proofs.letter_sets.Letters.with.Statement.{statement}
 use Rattle.labels.proofs.letter_sets.Letters.with.Tie as tie
 
@@ -26,14 +26,14 @@ returns c =
     let m : member (a .c) (spelled (a .self)) ≡ true = sym (pre .0 .sets (a .c) (pre .2)) ∙ sym (c .before .has-letter .ensures) ∙ c .if1 .taken in
     (rw m (pre .0), omega arith)
 
-mul-letters : tie.Need-mul-letters
-mul-letters c = search needs
+cast-letters : tie.Need-cast-letters
+cast-letters c = let s = c .before .before .before in omega (arith, letter-code (s .args .c) (s .pre .2))
 
 array-write-letters : tie.Need-array-write-letters
 array-write-letters c = search needs
 
-add-t7 : tie.Need-add-t7
-add-t7 c = search needs
+add-t11 : tie.Need-add-t11
+add-t11 c = search needs
 
 insert-requires : tie.Need-insert-requires
 insert-requires c κs = search needs
@@ -45,7 +45,7 @@ returns-2 c =
     let pre = c .before .before .before .before .pre in
     let cs = spelled (a .self) in
     let m : member (a .c) cs ≡ false = sym (pre .0 .sets (a .c) (pre .2)) ∙ sym (c .before .before .before .has-letter .ensures) ∙ c .before .before .if1 .left in
-    let len : length (a .self .letters) ≡ axesLimit = rw length-map at (c .before .before .before .before .good .0 .1 .1 .0 .1 .0 .1) in
+    let len : length (a .self .letters) ≡ lettersLimit = rw length-map at (c .before .before .before .before .good .0 .1 .1 .0 .1 .0 .1) in
     rw m (
       record {
         spells = firstOf-push 0 (a .self .letters) (a .self .count) (a .c) (omega arith);
@@ -62,4 +62,4 @@ returns-2 c =
 pub with-spec : {M : Type 1} → statement M
 with-spec =
     tie.close
-    (tie.spec has-letter-requires returns mul-letters array-write-letters add-t7 insert-requires returns-2)
+    (tie.spec has-letter-requires returns cast-letters array-write-letters add-t11 insert-requires returns-2)
