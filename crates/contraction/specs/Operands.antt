@@ -55,6 +55,7 @@ Shape = Operand → List Axis
 abbrev pub shape : (Operand → Layout) → Shape
 shape t o = axes (t o)
 
--- the axes of all tensors in the order in which groups take their letters: D's, then A's, then B's; C has D's letters (30)
+-- the axes of all tensors in the order in which groups take their letters: D's, then A's, then B's. C's stand last, for question 6; once 30 passed they add no
+-- letter
 unfoldable pub together : Shape → List Axis
 together s = s D ++ (s A ++ (s B ++ s C))

@@ -22,7 +22,7 @@ Slices = Operand → List ℕ
 abbrev pub lengthsIn : Contraction → Slices → Operand → ℕ
 lengthsIn c w = ofTensors c (length (w A)) (length (w B)) (length (w C)) (length (w D))
 
--- questions 1 to 9 of a contraction and its slices: the number of the first no, 0 where all pass
+-- questions 1 to 9, with 30, of a contraction and its slices: the number of the first no, 0 where all pass
 abbrev pub firstNo : Contraction → Slices → ℕ
 firstNo c w = refusal (layoutQuestions (tensors c) (lengthsIn c w))
 
