@@ -3,17 +3,24 @@ ghost use mathlib.Core.Bool.{true, cond, _&&_};
 ghost use Prim.Native.Nat.{_*_, _-_, _^_, _<_, _≤_};
 ghost use lib.Dec.{ltb};
 ghost use lib.IntN.{pos, natAbs, _*ℤ_};
+ghost use lib.ListN.{length};
 ghost use Rattle.words.specs.Words.{signed};
-ghost use Rattle.words.specs.Lists.{keep};
 ghost use Rattle.limits.specs.Limits.{labelsLimit};
+ghost use Rattle.labels.specs.Labels.{labels};
 ghost use Rattle.labels.specs.LetterSets.{has};
+ghost use Rattle.contraction.specs.Operands.{together};
+ghost use Rattle.contraction.specs.TensorAxes.{shapeOf, Gathered};
+ghost use Rattle.groups.specs.Groups.{labelsWhere};
 ghost use Rattle.groups.specs.Held.{asLabel, labelsIn};
 ghost use Rattle.groups.specs.Foldable.{Small, Foldable};
 ghost use Rattle.folding.specs.Fold.{eqℤ, joins, join, fold};
 use contraction::contraction::Contraction;
+use contraction::operands::Operands;
 use groups::groups::Dim;
 use groups::groups::Group;
+use groups::groups::dim_of;
 use labels::letter_sets::has_letter;
+use labels::letter_sets::wide;
 
 // Is the stride that of the label before times that one's extent? Strides are address words.
 fn follows(extent: u32, before: u64, stride: u64) -> bool
@@ -86,24 +93,32 @@ fn merged(p: Dim, l: Dim, joins: bool) -> Dim
     if joins { joined(p, l) } else { l }
 }
 
-// The labels of the letters that the set has, with labels of extent 1 dropped and labels that step together joined.
-pub fn folded(g: Group, set: u64) -> Group
-    requires { ⌜ (g .count ≤ labelsLimit) × Foldable (keep (λ l. has set (l .letter)) (labelsIn g)) ⌝ }
-    ensures { λ r. ⌜ (labelsIn r ≡ fold (keep (λ l. has set (l .letter)) (labelsIn g))) × (r .count ≤ labelsLimit) ⌝ }
+// The labels of the letters that the set has, in order of first appearance in D's, A's, B's and C's letters, with labels of extent 1 dropped and labels that
+// step together joined. A label is made where the set has its letter: a list of all labels would be copied for each set.
+pub fn folded(x: Operands, set: u64) -> Group
+    requires { ⌜ Gathered x
+        × (length (labels (together (shapeOf x))) ≤ labelsLimit)
+        × Foldable (labelsWhere (shapeOf x) (has set)) ⌝ }
+    ensures { λ r. ⌜ (labelsIn r ≡ fold (labelsWhere (shapeOf x) (has set))) × (r .count ≤ labelsLimit) ⌝ }
 {
-    let count = g.count;
+    let all = x.letters;
+    let letters = all.letters;
+    let count = all.count;
     let mut out = Group::none();
     let mut n: usize = 0;
     let mut i: usize = 0;
     while i < count {
-        let l = g.dims[i];
-        if has_letter(set, l.letter) & (l.extent != 1) {
-            let last = last_place(n);
-            let p = out.dims[last];
-            let joins = joins_last(n, p, l);
-            let at = pick(joins, last, n);
-            out.dims[at] = merged(p, l, joins);
-            n = at + 1;
+        let c = wide(letters[i]);
+        if has_letter(set, c) {
+            let l = dim_of(x, c);
+            if l.extent != 1 {
+                let last = last_place(n);
+                let p = out.dims[last];
+                let joins = joins_last(n, p, l);
+                let at = pick(joins, last, n);
+                out.dims[at] = merged(p, l, joins);
+                n = at + 1;
+            }
         }
         i += 1;
     }

@@ -1,13 +1,13 @@
 ghost use mathlib.Core.Path.{_≡_};
 ghost use mathlib.Core.Bool.{false};
-ghost use mathlib.Core.List.{[], map};
+ghost use mathlib.Core.List.{[]};
 ghost use Prim.Native.Nat.{_≤_};
 ghost use lib.ListN.{length, drop};
 ghost use Rattle.words.specs.Words.{wordOf};
 ghost use Rattle.limits.specs.Limits.{labelsLimit};
 ghost use Rattle.validity.specs.Checked.{Checked};
-ghost use Rattle.labels.specs.Labels.{strideOf, labels};
-ghost use Rattle.contraction.specs.Operands.{C, D, together};
+ghost use Rattle.labels.specs.Labels.{strideOf};
+ghost use Rattle.contraction.specs.Operands.{C, D};
 ghost use Rattle.contraction.specs.TensorAxes.{shapeOf, Gathered};
 ghost use Rattle.groups.specs.Groups.{label, size};
 ghost use Rattle.groups.specs.Held.{asLabel, labelsIn};
@@ -16,7 +16,6 @@ ghost use Rattle.groups.specs.Sets.{Split, Grouped};
 use contraction::contraction::Contraction;
 use contraction::operands::Operands;
 use labels::labels::stride_of;
-use labels::letter_sets::wide;
 use limits::limits::Limits;
 
 // A label, or several that were joined, with its extent and its stride in each tensor as an address word.
@@ -74,7 +73,7 @@ fn stride_in_c(x: Operands, c: u32, d: u64) -> u64
 }
 
 // A letter's label.
-fn dim_of(x: Operands, c: u32) -> Dim
+pub fn dim_of(x: Operands, c: u32) -> Dim
     requires { ⌜ Gathered x ⌝ }
     ensures { λ r. ⌜ asLabel r ≡ label (shapeOf x) c ⌝ }
 {
@@ -122,23 +121,6 @@ impl Group {
         }
         product
     }
-}
-
-// Every label of a contraction, in order of first appearance in D's, A's, B's and C's letters.
-pub fn labels_of(x: Operands) -> Group
-    requires { ⌜ Gathered x × (length (labels (together (shapeOf x))) ≤ labelsLimit) ⌝ }
-    ensures { λ r. ⌜ (labelsIn r ≡ map (label (shapeOf x)) (labels (together (shapeOf x)))) × (r .count ≤ labelsLimit) ⌝ }
-{
-    let letters = x.letters;
-    let count = letters.count;
-    let mut group = Group::none();
-    let mut i: usize = 0;
-    while i < count {
-        group.dims[i] = dim_of(x, wide(letters.letters[i]));
-        i += 1;
-        group.count = i;
-    }
-    group
 }
 
 // The four groups of a contraction's labels, as sets of letters.

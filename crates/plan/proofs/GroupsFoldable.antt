@@ -1,9 +1,9 @@
 -- The labels of a contraction that was accepted can be folded: every stride is small, and the product over the letters that pass any test, where an
 -- extent 0 counts as 1, is at most the product over all.
 -- Assumes nothing.
-use mathlib.Core.Path.{_≡_, refl, sym, ap, _∙_, fun-ext}
-use mathlib.Core.Bool.{Bool, true, false, _&&_}
-use mathlib.Core.List.{List, [], _∷_, _++_, map, append-assoc}
+use mathlib.Core.Path.{_≡_, sym, ap, _∙_, fun-ext}
+use mathlib.Core.Bool.{Bool, _&&_}
+use mathlib.Core.List.{List, [], _∷_, _++_, append-assoc}
 use Prim.Native.Nat.{ℕ, _≤_, max}
 use native.Mathlib.Nat.{le-max-left}
 use native.Mathlib.Decide.{ℕ-discrete}
@@ -12,7 +12,7 @@ use borrow.Author.Tests.{leb-true}
 use lib.Dec.{leb}
 use lib.ListN.{length, length-append}
 use Rattle.words.specs.Sums.{product}
-use Rattle.words.specs.Lists.{keep, cons-if, member}
+use Rattle.words.specs.Lists.{keep, member}
 use Rattle.words.proofs.Lists.{T-true, all-of, all-imp, all-map}
 use Rattle.words.proofs.Sums.{product-keep, product-map, and-split, every-all}
 use Rattle.words.proofs.Tabulate.{length-firstOf}
@@ -28,11 +28,9 @@ use Rattle.points.specs.LabelQuestions.{lettersAmong, lettersSame, points, poin
 use Rattle.contraction.specs.declared.contraction.Contraction.{Contraction}
 use Rattle.contraction.specs.declared.operands.Operands.{Operands}
 use Rattle.contraction.specs.Operands.{Operand, A, B, C, D, Shape, tensors, shape, together}
-use Rattle.contraction.specs.TensorAxes.{shapeOf, Ready}
+use Rattle.contraction.specs.TensorAxes.{shapeOf, Gathered, Ready}
 use Rattle.contraction.proofs.Again.{labels-among, labels-short}
 use Rattle.questions.proofs.Ready.{AllPassed}
-use Rattle.groups.specs.declared.groups.Group.{Group as GroupCode}
-use Rattle.groups.specs.Held.{labelsIn}
 use Rattle.groups.specs.Groups.{Label, Group, inGroup, labelsWhere, group, outputs, label}
 use Rattle.groups.specs.Foldable.{pointsIn, Small, Foldable}
 use Rattle.folding.specs.Fold.{fold}
@@ -104,34 +102,17 @@ fold-foldable g h = go g [] (fold-start g h)
         step (yes e) f g = f e
         step (no e) f g = g e
 
--- ---- the code's list of all labels, of which a set keeps some
-
-keep-map : {X Y : Type 0} (p : Y → Bool) (f : X → Y) (xs : List X) → keep p (map f xs) ≡ map f (keep (λ x. p (f x)) xs)
-keep-map p f [] = refl
-keep-map p f (x ∷ xs) = go (p (f x)) (keep-map p f xs)
-  where
-    go : (b : Bool) → keep p (map f xs) ≡ map f (keep (λ x. p (f x)) xs)
-        → cons-if b (f x) (keep p (map f xs)) ≡ map f (cons-if b x (keep (λ x. p (f x)) xs))
-    go true e = ap (λ (ys : List _). f x ∷ ys) e
-    go false e = e
+-- ---- the labels of the letters that a set has
 
 -- the code's lists have the tensors' axes
 same-shape : (c : Contraction) (x : Operands) → Ready c x → shapeOf x ≡ shape (tensors c)
 same-shape c x r = fun-ext (r .each)
 
--- there is room for all labels
-pub labels-fit : (c : Contraction) (x : Operands) → Ready c x → AllFoldable (shape (tensors c)) → length (labels (together (shapeOf x))) ≤ labelsLimit
-labels-fit c x r f = rw (same-shape c x r) (f .few)
-
-module _ (c : Contraction) (x : Operands) (r : Ready c x) (f : AllFoldable (shape (tensors c))) (all : GroupCode)
-    (e : labelsIn all ≡ map (label (shapeOf x)) (labels (together (shapeOf x)))) (set : ℕ) where
-  kept : keep (λ l. has set (l .letter)) (labelsIn all) ≡ labelsWhere (shapeOf x) (has set)
-  kept = ap (keep (λ (l : Label). has set (l .letter))) e ∙ keep-map (λ (l : Label). has set (l .letter)) (label (shapeOf x)) (labels (together (shapeOf x)))
-
+module _ (c : Contraction) (x : Operands) (r : Ready c x) (f : AllFoldable (shape (tensors c))) (set : ℕ) where
   -- what `folded` asks, and what it gives
-  pub fold-asks : Foldable (keep (λ l. has set (l .letter)) (labelsIn all))
-  fold-asks = rw (kept, same-shape c x r) (f .labels (has set))
+  pub fold-asks : Gathered x × (length (labels (together (shapeOf x))) ≤ labelsLimit) × Foldable (labelsWhere (shapeOf x) (has set))
+  fold-asks = (r .gathered, rw (same-shape c x r) (f .few), rw (same-shape c x r) (f .labels (has set)))
 
   pub fold-gives : (g : Shape → List Label) → labelsWhere (shapeOf x) (has set) ≡ g (shapeOf x) → (ls : List Label)
-      → ls ≡ fold (keep (λ l. has set (l .letter)) (labelsIn all)) → ls ≡ fold (g (shape (tensors c)))
-  fold-gives g k ls q = q ∙ ap fold (kept ∙ k) ∙ ap (λ (s : Shape). fold (g s)) (same-shape c x r)
+      → ls ≡ fold (labelsWhere (shapeOf x) (has set)) → ls ≡ fold (g (shape (tensors c)))
+  fold-gives g k ls q = q ∙ ap fold k ∙ ap (λ (s : Shape). fold (g s)) (same-shape c x r)

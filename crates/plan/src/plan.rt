@@ -9,7 +9,6 @@ use folding::fold::folded;
 use groups::groups::Group;
 use groups::groups::Groups;
 use groups::groups::groups_of;
-use groups::groups::labels_of;
 use offsets::offsets::Offsets;
 
 // What tiles walk: the four groups, folded, and where each tensor begins.
@@ -53,13 +52,12 @@ pub fn plan_of(c: Contraction, x: Operands) -> Plan
     requires { ⌜ Ready c x × AllFoldable (shape (tensors c)) ⌝ }
     ensures { λ r. ⌜ Planned (tensors c) r ⌝ }
 {
-    let all = labels_of(x);
     let sets = groups_of(x);
     let groups = Groups {
-        batch: folded(all, sets.batch),
-        row: folded(all, sets.row),
-        column: folded(all, sets.column),
-        depth: folded(all, sets.depth),
+        batch: folded(x, sets.batch),
+        row: folded(x, sets.row),
+        column: folded(x, sets.column),
+        depth: folded(x, sets.depth),
     };
     Plan {
         groups,
@@ -71,11 +69,10 @@ pub fn output_plan_of(c: Contraction, x: Operands) -> OutputPlan
     requires { ⌜ Ready c x × AllFoldable (shape (tensors c)) ⌝ }
     ensures { λ r. ⌜ OutputPlanned (tensors c) r ⌝ }
 {
-    let all = labels_of(x);
     let sets = groups_of(x);
     OutputPlan {
-        output: folded(all, x.d.letters.set),
-        depth: folded(all, sets.depth),
+        output: folded(x, x.d.letters.set),
+        depth: folded(x, sets.depth),
         base: base_of(c),
     }
 }

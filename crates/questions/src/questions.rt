@@ -21,10 +21,10 @@ use points::label_questions::points_fit;
 use tensor_answers::tensor_answers::Asked;
 use tensor_answers::tensor_answers::ask;
 
-// The number of the first of questions 1 to 9 that fails, or 0; where it is 0, the lists of the tensors' axes.
+// The number of the first of questions 1 to 9 that fails, or 0; where it is 0, the lists of the tensors' axes, which stand first as in `Asked`.
 pub struct Listed {
-    pub number: u32,
     pub lists: Operands,
+    pub number: u32,
 }
 
 // Questions 6, 30 and 7 to 9: the number of the first no, or 0. `within` is the answer to question 8.

@@ -18,10 +18,11 @@ pub struct Answer {
     pub inside: bool,
 }
 
-// A tensor's answer, and its axes in a list beside their letters, made where questions 1 to 5 pass.
+// A tensor's answer, and its axes in a list beside their letters, made where questions 1 to 5 pass. The lists stand first: behind the answer they would be
+// copied with its padding, in words that straddle those just written.
 pub struct Asked {
-    pub answer: Answer,
     pub lists: Labelled,
+    pub answer: Answer,
 }
 
 // A question before others: its number where it fails, else what they answer.

@@ -1,67 +1,75 @@
--- `folded` meets its contract. The loop goes from the first label to the last, as `joinFrom` does; its invariant: the labels folded so far and
--- those that the set keeps from i on fold to what all that it keeps fold to, and no more than i are folded so far. The measure is how many are left.
+-- `folded` meets its contract. The loop goes from the first letter to the last, as `joinFrom` goes along the labels; its invariant: the labels folded so
+-- far and those of the letters that the set has from i on fold to what those of all letters that it has fold to, and no more than i are folded so far. The
+-- measure is how many letters are left.
 -- Assumes nothing.
 use mathlib.Core.Path.{_≡_, refl, sym, ap, _∙_, subst}
 use mathlib.Core.Logic.{⊎-elim}
-use mathlib.Core.Bool.{Bool, true, false, not, cond, _&&_, true≢false}
+use mathlib.Core.Bool.{Bool, true, false, cond, _&&_, true≢false}
 use mathlib.Core.List.{List, [], _∷_, map}
 use Prim.Native.Nat.{ℕ, _+_, _-_, _<_, _≤_}
 use native.Mathlib.Omega.{arith}
-use borrow.Author.Tests.{eqb-true, eqb-false, ltb-true, not-true, not-false}
-use lib.Dec.{eqb, ltb}
+use borrow.Author.Tests.{ltb-true}
+use lib.Dec.{ltb}
 use lib.ListN.{length, getD, set, length-set}
 use Rattle.words.specs.Lists.{keep, cons-if}
-use Rattle.words.proofs.Tabulate.{from, from-end, from-next}
+use Rattle.words.proofs.Tabulate.{from, from-end, from-next, length-firstOf}
 use Rattle.limits.specs.Limits.{labelsLimit}
-use Rattle.labels.specs.LetterSets.{has}
+use Rattle.labels.specs.Labels.{labels}
+use Rattle.labels.specs.LetterSets.{has, spelled}
+use Rattle.contraction.specs.declared.operands.Operands.{Operands}
+use Rattle.contraction.specs.Operands.{together}
+use Rattle.contraction.specs.TensorAxes.{shapeOf, Gathered}
 use Rattle.groups.specs.declared.groups.Dim.{Dim}
-use Rattle.groups.specs.Groups.{Label}
+use Rattle.groups.specs.Groups.{Label, label, labelsWhere}
 use Rattle.groups.specs.Held.{asLabel, noDim, labelsIn}
 use Rattle.groups.proofs.LabelLists.{holding}
-use Rattle.folding.specs.Fold.{joins, join}
+use Rattle.folding.specs.Fold.{joins, join, fold}
 use Rattle.folding.proofs.Folding.{addTo, Folding, fold-start, fold-skip, fold-add, fold-end}
 use Rattle.folding.proofs.LabelAdded.{last, small-last, joined-fits, stored}
 use Rattle.folding.proofs.fold.folded.Statement.{statement}
 use Rattle.folding.proofs.fold.folded.Tie as tie
 
--- is the label's letter in the set?
-abbrev inSet : ℕ → Label → Bool
-inSet set l = has set (l .letter)
+-- the labels of the letters that a test keeps from place i on
+abbrev rest : (ℕ → Label) → (ℕ → Bool) → List ℕ → ℕ → ℕ → List Label
+rest f p cs count i = map f (keep p (from 0 cs count i))
 
--- what a test keeps of the labels from place i on
-abbrev rest : (Label → Bool) → List Dim → ℕ → ℕ → List Label
-rest p dims count i = keep p (map asLabel (from noDim dims count i))
+-- a turn of the loop: the label of the letter at place i is added, or left out
+module _ (f : ℕ → Label) (p : ℕ → Bool) (cs : List ℕ) (count i : ℕ) (done : List Label) (h : i < count)
+    (g : Folding done (rest f p cs count i) (rest f p cs count 0)) where
+  abbrev here : ℕ
+  here = getD cs i 0
 
--- a turn of the loop: the label at place i is added, or left out
-module _ (p : Label → Bool) (dims : List Dim) (count i : ℕ) (done : List Label) (h : i < count) (f : Folding done (rest p dims count i) (rest p dims count 0)) where
-  abbrev here : Label
-  here = asLabel (getD dims i noDim)
+  abbrev left : List Label
+  left = rest f p cs count (i + 1)
 
-  first : Folding done (cons-if (p here) here (rest p dims count (i + 1))) (rest p dims count 0)
-  first = subst (λ (ds : List Dim). Folding done (keep p (map asLabel ds)) (rest p dims count 0)) (from-next noDim dims count i h) f
+  abbrev all : List Label
+  all = rest f p cs count 0
 
-  kept : p here ≡ true → Folding done (here ∷ rest p dims count (i + 1)) (rest p dims count 0)
-  kept e = subst (λ (b : Bool). Folding done (cons-if b here (rest p dims count (i + 1))) (rest p dims count 0)) e first
+  told : (b : Bool) → p here ≡ b → Folding done (map f (cons-if b here (keep p (from 0 cs count (i + 1))))) all
+  told b e =
+      subst (λ (b : Bool). Folding done (map f (cons-if b here (keep p (from 0 cs count (i + 1))))) all) e
+      (subst (λ (xs : List ℕ). Folding done (map f (keep p xs)) all) (from-next 0 cs count i h) g)
 
-  turn-add : p here ≡ true → (here .extent ≡ 1 → ⊥) → Folding (addTo done here) (rest p dims count (i + 1)) (rest p dims count 0)
-  turn-add e n = fold-add done (rest p dims count (i + 1)) (rest p dims count 0) here (kept e) n
+  -- the code's label of a letter that the test keeps
+  module _ (l : Dim) (m : asLabel l ≡ f here) (e : p here ≡ true) where
+    kept : Folding done (asLabel l ∷ left) all
+    kept = subst (λ (k : Label). Folding done (k ∷ left) all) (sym m) (told true e)
 
-  turn-skip : (p here && not (eqb (here .extent) 1)) ≡ false → Folding done (rest p dims count (i + 1)) (rest p dims count 0)
-  turn-skip e = go (p here) refl e
-    where
-      go : (b : Bool) → p here ≡ b → (b && not (eqb (here .extent) 1)) ≡ false → Folding done (rest p dims count (i + 1)) (rest p dims count 0)
-      go true q z = fold-skip done (rest p dims count (i + 1)) (rest p dims count 0) here (kept q) (eqb-true (here .extent) 1 (not-false (eqb (here .extent) 1) z))
-      go false q z = subst (λ (b : Bool). Folding done (cons-if b here (rest p dims count (i + 1))) (rest p dims count 0)) q first
+    turn-skip : l .extent ≡ 1 → Folding done left all
+    turn-skip = fold-skip done left all (asLabel l) kept
 
-  -- the code's step
-  turn-stored : (dims₁ : List Dim) (n : ℕ) → n < length dims₁ → done ≡ labelsIn (holding dims₁ n) → p here ≡ true → (here .extent ≡ 1 → ⊥)
-      → (back : ℕ) → back ≡ n - 1 → (b : Bool) → b ≡ (ltb 0 n && joins (asLabel (getD dims₁ back noDim)) here)
-      → (q : Dim) → asLabel q ≡ cond b (join (asLabel (getD dims₁ back noDim)) here) here → (at : ℕ) → at ≡ cond b back n
-      → Folding (labelsIn (holding (set dims₁ at q) (at + 1))) (rest p dims count (i + 1)) (rest p dims count 0)
-  turn-stored dims₁ n k d e x back eb b j q m at ea =
-      subst (λ (ls : List Label). Folding ls (rest p dims count (i + 1)) (rest p dims count 0))
-      (ap (λ (ls : List Label). addTo ls here) d ∙ sym (stored dims₁ n k (getD dims i noDim) q b at (rw eb at j) (rw eb at m) (rw eb at ea)))
-      (turn-add e x)
+    turn-add : (l .extent ≡ 1 → ⊥) → Folding (addTo done (asLabel l)) left all
+    turn-add = fold-add done left all (asLabel l) kept
+
+    -- the code's step
+    turn-stored : (dims : List Dim) (n : ℕ) → n < length dims → done ≡ labelsIn (holding dims n) → (l .extent ≡ 1 → ⊥)
+        → (back : ℕ) → back ≡ n - 1 → (b : Bool) → b ≡ (ltb 0 n && joins (asLabel (getD dims back noDim)) (asLabel l))
+        → (q : Dim) → asLabel q ≡ cond b (join (asLabel (getD dims back noDim)) (asLabel l)) (asLabel l) → (at : ℕ) → at ≡ cond b back n
+        → Folding (labelsIn (holding (set dims at q) (at + 1))) left all
+    turn-stored dims n k d x back eb b j q w at ea =
+        subst (λ (ls : List Label). Folding ls left all)
+        (ap (λ (ls : List Label). addTo ls (asLabel l)) d ∙ sym (stored dims n k l q b at (rw eb at j) (rw eb at w) (rw eb at ea)))
+        (turn-add x)
 
 both-true : (a b : Bool) → (a && b) ≡ true → (a ≡ true) × (b ≡ true)
 both-true true b e = (refl, e)
@@ -71,13 +79,24 @@ not-above : (b : Bool) (n : ℕ) → cond b (n - 1) n ≤ n
 not-above true n = omega arith
 not-above false n = omega arith
 
+-- there are as many letters as labels, and so few enough
+few : (x : Operands) → Gathered x → length (labels (together (shapeOf x))) ≤ labelsLimit → x .letters .count ≤ labelsLimit
+unfolding spelled
+few x h b = omega (arith, length-firstOf (x .letters .count) 0 (x .letters .letters), ap length (h .all .spells), b)
+
+-- the labels of all letters that the set has
+all-letters : (x : Operands) → Gathered x → (p : ℕ → Bool)
+    → rest (label (shapeOf x)) p (x .letters .letters) (x .letters .count) 0 ≡ labelsWhere (shapeOf x) p
+unfolding spelled
+all-letters x h p = ap (λ (cs : List ℕ). map (label (shapeOf x)) (keep p cs)) (h .all .spells)
+
 abbrev Inv-loop : tie.InvT-loop
-Inv-loop set g count out₀ n₀ i₀ out n i =
-    (i ≤ count) × (n ≤ i) × (length (out .dims) ≡ labelsLimit)
-    × Folding (labelsIn (holding (out .dims) n)) (rest (inSet set) (g .dims) count i) (rest (inSet set) (g .dims) count 0)
+Inv-loop x set letters count out₀ n₀ i₀ out n i =
+    (i ≤ count) × (n ≤ i) × (length (out .dims) ≡ labelsLimit) × (count ≤ labelsLimit)
+    × Folding (labelsIn (holding (out .dims) n)) (rest (label (shapeOf x)) (has set) letters count i) (rest (label (shapeOf x)) (has set) letters count 0)
 
 abbrev μ-loop : tie.MeasureT-loop
-μ-loop set g count out₀ n₀ i₀ out n i = count - i
+μ-loop x set letters count out₀ n₀ i₀ out n i = count - i
 
 none-requires : tie.Need-none-requires Inv-loop μ-loop
 none-requires c κs = tt
@@ -85,21 +104,26 @@ none-requires c κs = tt
 loop-holds : tie.Need-loop-holds Inv-loop μ-loop
 unfolding labelsIn
 loop-holds c =
-    let s = c .before in (
+    let s = c .before .before .before in
+    let x = s .args .x in (
       omega arith,
       omega arith,
       c .none .ensures .2,
-      fold-start (rest (inSet (s .args .set)) (s .args .t1 .dims) (s .args .t1 .count) 0) (s .pre .1),
+      few x (s .pre .0) (s .pre .1),
+      fold-start (rest (label (shapeOf x)) (has (s .args .set)) (x .letters .letters) (x .letters .count) 0) (rw (all-letters x (s .pre .0) (has (s .args .set))) (s .pre .2)),
     )
 
-mul-l : tie.Need-mul-l Inv-loop μ-loop
-mul-l c = omega arith
+array-read-wide : tie.Need-array-read-wide Inv-loop μ-loop
+array-read-wide c = omega arith
 
-element-copy-out-l : tie.Need-element-copy-out-l Inv-loop μ-loop
-element-copy-out-l c = omega arith
+wide-requires : tie.Need-wide-requires Inv-loop μ-loop
+wide-requires c κs = tt
 
 has-letter-requires : tie.Need-has-letter-requires Inv-loop μ-loop
 has-letter-requires c κs = tt
+
+dim-of-requires : tie.Need-dim-of-requires Inv-loop μ-loop
+dim-of-requires c κs = c .before .before .before .before .before .before .before .before .pre .0
 
 last-place-requires : tie.Need-last-place-requires Inv-loop μ-loop
 last-place-requires c κs = tt
@@ -112,49 +136,57 @@ element-copy-out-p c = omega (arith, c .last-place .ensures)
 
 joins-last-requires : tie.Need-joins-last-requires Inv-loop μ-loop
 joins-last-requires c κs =
-    let l = c .before .before .before .before .before .before .before .loop in
-    λ z. rw (c .before .last-place .ensures) (small-last (holding (l .out .dims) (l .n)) z (l .inv .3 .foldable))
+    let l = c .before .before .before .before .before .before .before .before .before .loop in
+    λ z. rw (c .before .last-place .ensures) (small-last (holding (l .out .dims) (l .n)) z (l .inv .4 .foldable))
+
+-- the set has the letter at a place where the test of the letter that is read there says so
+kept-letter : (set : ℕ) {c here : ℕ} {b v : Bool} → c ≡ here → b ≡ has set c → b ≡ v → has set here ≡ v
+kept-letter set e f g = ap (has set) (sym e) ∙ sym f ∙ g
 
 pick-requires : tie.Need-pick-requires Inv-loop μ-loop
 pick-requires c κs = tt
 
 -- the place is that of the last label, or the one behind it
 place-is : (c : tie.After-merged Inv-loop μ-loop)
-    → c .before .pick .result
-    ≡ cond (c .before .before .joins-last .result) (c .before .before .before .before .before .before .before .before .before .before .loop .n - 1)
-    (c .before .before .before .before .before .before .before .before .before .before .loop .n)
+    → let l = c .before .before .before .before .before .before .before .before .before .before .before .before .loop in
+    c .before .pick .result ≡ cond (c .before .before .joins-last .result) (l .n - 1) (l .n)
 place-is c = c .before .pick .ensures ∙ rw (c .before .before .before .before .last-place .ensures)
 
 placed : (c : tie.After-merged Inv-loop μ-loop)
-    → c .before .pick .result ≤ c .before .before .before .before .before .before .before .before .before .before .loop .n
+    → c .before .pick .result ≤ c .before .before .before .before .before .before .before .before .before .before .before .before .loop .n
 placed c = rw (place-is c) (not-above (c .before .before .joins-last .result) _)
+
+-- and so in the array
+place-fits : (c : tie.After-merged Inv-loop μ-loop) → c .before .pick .result < labelsLimit
+place-fits c =
+    let l = c .before .before .before .before .before .before .before .before .before .before .before .before .loop in
+    omega (arith, placed c, l .inv .1, l .inv .3)
 
 merged-requires : tie.Need-merged-requires Inv-loop μ-loop
 merged-requires c κs =
-    let l = c .before .before .before .before .before .before .before .before .before .loop in
-    let s = c .before .before .before .before .before .before .before .before .before .before .before in
+    let d = c .before .before .before .before .before .before in
+    let h = d .before .before in
+    let w = h .before in
+    let l = w .before .before .loop in
+    let s = w .before .before .before .before .before .before in
+    let x = s .args .x in
     λ e.
-    let d = s .args .t1 .dims in
     let g = holding (l .out .dims) (l .n) in
-    let i : l .i < s .args .t1 .count = omega arith in
-    let k = both-true _ _ (c .before .before .before .before .if1 .taken) in
-    let f = turn-add (inSet (s .args .set)) d (s .args .t1 .count) (l .i) (labelsIn g) i (l .inv .3)
-    (sym (c .before .before .before .before .before .before .has-letter .ensures) ∙ k .0) (eqb-false _ 1 (not-true _ (k .1))) in
-    let j = both-true (ltb 0 (l .n)) (joins (asLabel (last g)) (asLabel (getD d (l .i) noDim)))
-    (rw (c .before .before .before .last-place .ensures) at (sym (c .before .joins-last .ensures) ∙ e)) in
-    rw (c .before .before .before .last-place .ensures)
-    (joined-fits g (ltb-true 0 (l .n) (j .0)) (getD d (l .i) noDim) (f .foldable) (j .1))
+    let r = d .dim-of .result in
+    let f = turn-add (label (shapeOf x)) (has (s .args .set)) (x .letters .letters) (x .letters .count) (l .i) (labelsIn g) (omega arith) (l .inv .4) r
+    (d .dim-of .ensures ∙ ap (label (shapeOf x)) (w .wide .ensures)) (kept-letter (s .args .set) (w .wide .ensures) (h .has-letter .ensures) (d .before .if1 .taken))
+    (c .before .before .before .before .if2 .taken) in
+    let j = both-true (ltb 0 (l .n)) (joins (asLabel (last g)) (asLabel r)) (rw (c .before .before .before .last-place .ensures) at (sym (c .before .joins-last .ensures) ∙ e)) in
+    rw (c .before .before .before .last-place .ensures) (joined-fits g (ltb-true 0 (l .n) (j .0)) r (f .foldable) (j .1))
 
-mul-t21 : tie.Need-mul-t21 Inv-loop μ-loop
-mul-t21 c = let l = c .before .before .before .before .before .before .before .before .before .before .loop in omega (arith, placed c, l .inv .1)
+mul-t22 : tie.Need-mul-t22 Inv-loop μ-loop
+mul-t22 c = omega (arith, place-fits c)
 
 element-set-from-out : tie.Need-element-set-from-out Inv-loop μ-loop
-element-set-from-out c =
-    let l = c .before .before .before .before .before .before .before .before .before .before .loop in
-    omega (arith, placed c, l .inv .1)
+element-set-from-out c = place-fits c
 
 add-n : tie.Need-add-n Inv-loop μ-loop
-add-n c = let l = c .before .before .before .before .before .before .before .before .before .before .loop in omega (arith, placed c, l .inv .1)
+add-n c = omega (arith, place-fits c)
 
 add-i : tie.Need-add-i Inv-loop μ-loop
 add-i c = omega arith
@@ -164,35 +196,49 @@ loop-less c = omega arith
 
 loop-again : tie.Need-loop-again Inv-loop μ-loop
 loop-again c =
-    let l = c .before .before .before .before .before .loop in
-    let s = c .before .before .before .before .before .before .before in
-    let n : l .i < s .args .t1 .count = omega arith in
-    let h = c .before .before .has-letter .ensures in
-    let turn = turn-skip (inSet (s .args .set)) (s .args .t1 .dims) (s .args .t1 .count) (l .i) (labelsIn (holding (l .out .dims) (l .n))) n (l .inv .3) in
-    let put = turn-stored (inSet (s .args .set)) (s .args .t1 .dims) (s .args .t1 .count) (l .i) (labelsIn (holding (l .out .dims) (l .n))) n (l .inv .3) in
+    let h = c .before .has-letter .ensures in
+    let v = c .before .before .wide .ensures in
+    let l = c .before .before .before .before .loop in
+    let s = c .before .before .before .before .before .before .before .before in
+    let x = s .args .x in
+    let m : l .i < x .letters .count = omega arith in
+    let f = label (shapeOf x) in
+    let p = has (s .args .set) in
+    let g = labelsIn (holding (l .out .dims) (l .n)) in
+    let skip = turn-skip f p (x .letters .letters) (x .letters .count) (l .i) g m (l .inv .4) in
+    let put = turn-stored f p (x .letters .letters) (x .letters .count) (l .i) g m (l .inv .4) in
+    let out = told f p (x .letters .letters) (x .letters .count) (l .i) g m (l .inv .4) false in
     ⊎-elim
     (λ w.
-    let k = both-true _ _ (w .0 .taken) in
-    let low : w .4 .result ≤ l .n = rw (w .4 .ensures, w .1 .ensures) (not-above (w .3 .result) (l .n)) in (
+    let low : w .7 .result ≤ l .n = rw (w .7 .ensures, w .4 .ensures) (not-above (w .6 .result) (l .n)) in (
       omega arith,
-      omega (arith, w .7, low, l .inv .1),
-      rw (w .6) (length-set (l .out .dims) (w .4 .result) (w .5 .result) ∙ l .inv .2),
-      rw (w .6, w .7)
-          (put (l .out .dims) (l .n) (omega (arith, l .inv .1, l .inv .2)) refl (sym h ∙ k .0) (eqb-false _ 1 (not-true _ (k .1))) (w .1 .result) (w .1 .ensures) (w .3 .result) (w .3 .ensures) (w .5 .result) (w .5 .ensures)
-          (w .4 .result) (w .4 .ensures)),
+      omega (arith, w .10, low, l .inv .1),
+      rw (w .9) (length-set (l .out .dims) (w .7 .result) (w .8 .result) ∙ l .inv .2),
+      l .inv .3,
+      rw (w .9, w .10)
+          (put (w .1 .result) (w .1 .ensures ∙ ap f v) (kept-letter (s .args .set) v h (w .0 .taken)) (l .out .dims) (l .n) (omega (arith, l .inv .1, l .inv .2, l .inv .3)) refl (w .3 .taken)
+          (w .4 .result) (w .4 .ensures) (w .6 .result) (w .6 .ensures) (w .8 .result) (w .8 .ensures) (w .7 .result) (w .7 .ensures)),
     ))
-    (λ w. (omega arith, omega (arith, w .2, l .inv .1), rw (w .1) (l .inv .2), rw (w .1, w .2) (turn (rw h at (w .0 .left)))))
+    (⊎-elim
+    (λ w. (
+      omega arith,
+      omega (arith, w .5, l .inv .1),
+      rw (w .4) (l .inv .2),
+      l .inv .3,
+      rw (w .4, w .5) (skip (w .1 .result) (w .1 .ensures ∙ ap f v) (kept-letter (s .args .set) v h (w .0 .taken)) (w .3 .left)),
+    ))
+    (λ w. (omega arith, omega (arith, w .2, l .inv .1), rw (w .1) (l .inv .2), l .inv .3, rw (w .1, w .2) (out (kept-letter (s .args .set) v h (w .0 .left))))))
     (c .if1 .came)
 
 returns : tie.Need-returns Inv-loop μ-loop
-unfolding labelsIn
 returns c =
     let l = c .before .loop in
-    let s = c .before .before .before in
-    let z : l .i ≡ s .args .t1 .count = omega arith in
-    let r = rest (inSet (s .args .set)) (s .args .t1 .dims) (s .args .t1 .count) in
-    let e : r (l .i) ≡ [] = rw (z, from-end noDim (s .args .t1 .dims) (s .args .t1 .count)) in
-    (fold-end (labelsIn (holding (l .out .dims) (l .n))) (r 0) (rw e at (l .inv .3)), omega (arith, l .inv .1))
+    let s = c .before .before .before .before .before in
+    let x = s .args .x in
+    let z : l .i ≡ x .letters .count = omega arith in
+    let r = rest (label (shapeOf x)) (has (s .args .set)) (x .letters .letters) (x .letters .count) in
+    let e : r (l .i) ≡ [] = rw (z, from-end 0 (x .letters .letters) (x .letters .count)) in
+    (fold-end (labelsIn (holding (l .out .dims) (l .n))) (r 0) (rw e at (l .inv .4)) ∙ ap fold (all-letters x (s .pre .0) (has (s .args .set))), omega (arith, l .inv .1, l .inv .3))
 
 pub folded-spec : {M : Type 1} → statement M
 folded-spec =
@@ -202,16 +248,17 @@ folded-spec =
     μ-loop
     none-requires
     loop-holds
-    mul-l
-    element-copy-out-l
+    array-read-wide
+    wide-requires
     has-letter-requires
+    dim-of-requires
     last-place-requires
     mul-p
     element-copy-out-p
     joins-last-requires
     pick-requires
     merged-requires
-    mul-t21
+    mul-t22
     element-set-from-out
     add-n
     add-i

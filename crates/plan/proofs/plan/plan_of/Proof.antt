@@ -1,44 +1,38 @@
--- `plan_of` meets its contract: of the list of all labels, each set keeps its group, which can be folded.
+-- `plan_of` meets its contract: the labels of each set's letters are its group, which can be folded.
 -- Assumes nothing.
 use mathlib.Core.Path.{_≡_}
 use Prim.Native.Nat.{ℕ, _≤_}
 use borrow.Author.Needs.{needs}
-use Rattle.words.specs.Lists.{keep}
+use lib.ListN.{length}
 use Rattle.limits.specs.Limits.{labelsLimit}
+use Rattle.labels.specs.Labels.{labels}
 use Rattle.labels.specs.LetterSets.{has}
-use Rattle.contraction.specs.Operands.{tensors, shape}
+use Rattle.contraction.specs.Operands.{tensors, shape, together}
+use Rattle.contraction.specs.TensorAxes.{shapeOf, Gathered}
 use Rattle.groups.specs.declared.groups.Group.{Group as GroupCode}
-use Rattle.groups.specs.Groups.{Group, batch, row, column, depth, group}
+use Rattle.groups.specs.Groups.{Group, batch, row, column, depth, labelsWhere, group}
 use Rattle.groups.specs.Held.{labelsIn}
 use Rattle.groups.specs.Sets.{setsIn}
 use Rattle.groups.specs.Foldable.{Foldable}
 use Rattle.folding.specs.Fold.{fold}
-use Rattle.plan.proofs.GroupsFoldable.{labels-fit, fold-asks, fold-gives}
+use Rattle.plan.proofs.GroupsFoldable.{fold-asks, fold-gives}
 use Rattle.plan.proofs.plan.plan_of.Statement.{statement}
 use Rattle.plan.proofs.plan.plan_of.Tie as tie
-
-labels-of-requires : tie.Need-labels-of-requires
-labels-of-requires c κs = (c .pre .0 .gathered, labels-fit (c .args .c) (c .args .x) (c .pre .0) (c .pre .1))
 
 groups-of-requires : tie.Need-groups-of-requires
 groups-of-requires c κs = search needs
 
 -- what `folded` asks of a set, and what it gives
 asks : (c : tie.After-groups-of) (set : ℕ)
-    → (c .before .labels-of .result .count ≤ labelsLimit) × Foldable (keep (λ l. has set (l .letter)) (labelsIn (c .before .labels-of .result)))
-asks c set =
-    let s = c .before .before in
-    let l = c .before .labels-of in
-    (l .ensures .1, fold-asks (s .args .c) (s .args .x) (s .pre .0) (s .pre .1) (l .result) (l .ensures .0) set)
+    → let x = c .before .args .x in Gathered x × (length (labels (together (shapeOf x))) ≤ labelsLimit) × Foldable (labelsWhere (shapeOf x) (has set))
+asks c set = let s = c .before in fold-asks (s .args .c) (s .args .x) (s .pre .0) (s .pre .1) set
 
 gives : (c : tie.After-groups-of) (g : Group) (r : GroupCode)
-    → labelsIn r ≡ fold (keep (λ l. has (setsIn (c .groups-of .result) g) (l .letter)) (labelsIn (c .before .labels-of .result)))
-    → labelsIn r ≡ fold (group (shape (tensors (c .before .before .args .c))) g)
+    → labelsIn r ≡ fold (labelsWhere (shapeOf (c .before .args .x)) (has (setsIn (c .groups-of .result) g)))
+    → labelsIn r ≡ fold (group (shape (tensors (c .before .args .c))) g)
 gives c g r e =
-    let s = c .before .before in
-    let l = c .before .labels-of in
-    fold-gives (s .args .c) (s .args .x) (s .pre .0) (s .pre .1) (l .result) (l .ensures .0) (setsIn (c .groups-of .result) g) (λ s. group s g)
-    (c .groups-of .ensures .labels g) (labelsIn r) e
+    let s = c .before in
+    fold-gives (s .args .c) (s .args .x) (s .pre .0) (s .pre .1) (setsIn (c .groups-of .result) g) (λ s. group s g) (c .groups-of .ensures .labels g) (labelsIn r) e
 
 folded-requires : tie.Need-folded-requires
 folded-requires c κs = asks c (c .groups-of .result .batch)
@@ -78,7 +72,6 @@ pub plan-of-spec : {M : Type 1} → statement M
 plan-of-spec =
     tie.close
     (tie.spec
-    labels-of-requires
     groups-of-requires
     folded-requires
     folded-requires-2
