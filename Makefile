@@ -2,6 +2,7 @@
 # make test: proves every crate, tries the must-fail edits, runs every test. Its last line is 'N passed, 0 failed', or it fails.
 # make example: makes the archive, then builds and runs the examples; each prints the same lines in C and in Rust.
 # make bench: makes the archive, then measures both engines beside loops in Rust. Prints the tables, puts them and the plots into docs/; fails where a required ratio is missed.
+# make bench BEFORE=ARCHIVE: beside the archive of another commit too, a copy of its target/staticlib/libnezgrak.a. That needs objcopy.
 # make soak: makes the archive and the job program, then compares both with models on a million random contractions and 100,000 damaged job files. SEED=n takes others, COUNT=n fewer.
 .PHONY: run test example bench soak archive
 JOB = examples/jobs/matrix_three_tiles.job
@@ -25,7 +26,7 @@ example: archive
 	done
 
 bench: archive
-	@$(cargo) bench --offline --quiet --bench figures
+	@$(if $(BEFORE),export NEZGRAK_BEFORE="$(abspath $(BEFORE))"; )$(cargo) bench --offline --quiet --bench figures
 
 soak: archive
 	@rt check nezgrak_job >&2

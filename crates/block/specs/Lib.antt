@@ -1,3 +1,5 @@
 pub mod Block
 pub mod BlockCases
 pub mod Places
+pub mod StretchCases
+pub mod Stretches

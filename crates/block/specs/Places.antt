@@ -9,7 +9,8 @@ use lib.ListN.{getD}
 use Rattle.words.specs.Words.{word}
 use Rattle.words.specs.Loops.{Within}
 use Rattle.limits.specs.Limits.{blockLimit}
-use Rattle.block.specs.Block.{Step, even, scattered, blockStep}
+use Rattle.block.specs.Block.{Step, even, scattered, stepFrom, blockStep}
+use Rattle.block.specs.Stretches.{longestFrom}
 use Rattle.block.specs.declared.block.Step.{Step as StepCode}
 use Rattle.block.specs.declared.block.Block.{Block}
 
@@ -18,11 +19,21 @@ abbrev pub asStep : StepCode → Step
 asStep (StepCode.Even s) = even s
 asStep StepCode.Scattered = scattered
 
+-- at each place the length of the longest even stretch from there on
+pub record Measured (count : ℕ) (offsets lengths : List ℕ) : Type 0 where
+  pub each : (i : ℕ) → getD lengths i 0 ≡ longestFrom count offsets i
+
+-- s takes the address word x to y
+pub record StepOf (x y s : ℕ) : Type 0 where
+  pub is : s ≡ stepFrom x y
+  pub reaches : y ≡ word 64 (x + s)
+
 -- the block of the first `count` of these offsets
 pub record BlockOf (count : ℕ) (offsets : List ℕ) (b : Block) : Type 0 where
   pub holds : b .offsets ≡ offsets
   pub used : b .count ≡ min count blockLimit
   pub step : asStep (b .step) ≡ blockStep count offsets
+  pub lengths : Measured count offsets (b .lengths)
 
 -- the address of place i of a block that begins at `from`
 abbrev pub placeOf : ℕ → List ℕ → ℕ → ℕ
@@ -42,7 +53,6 @@ pub record Stepped (count : ℕ) (offsets : List ℕ) (s : Step) : Type 0 where
   pub step : s ≡ blockStep count offsets
 
 -- the rows or columns of a block have places in a lane
-pub record InLane (width count : ℕ) (offsets : List ℕ) (step : Step) : Type 0 where
+pub record InLane (width count : ℕ) : Type 0 where
   pub fits : count ≤ width  -- one place each
   pub narrow : width ≤ blockLimit  -- no lane is wider than a block can be
-  pub stepped : Stepped count offsets step  -- the step is that of the offsets

@@ -11,6 +11,7 @@ use Rattle.groups.proofs.GroupCases.{group-cases}
 use Rattle.offsets.proofs.OffsetCases.{offset-cases}
 use Rattle.folding.proofs.FoldCases.{fold-cases}
 use Rattle.block.proofs.BlockCases.{block-cases}
+use Rattle.block.proofs.StretchCases.{stretch-cases}
 use Rattle.pack.proofs.PackedCases.{packed-cases}
 use Rattle.tiles.proofs.TileCases.{tile-cases}
 use Rattle.tile_questions.proofs.TileQuestionCases.{tile-question-cases}
@@ -45,6 +46,7 @@ pinned =
       label-kinds = label-kind-cases;
       tile-numbers = tile-cases;
       blocks = block-cases;
+      stretches = stretch-cases;
       packed = packed-cases;
       work = work-cases;
       marks = mark-cases;

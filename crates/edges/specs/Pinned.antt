@@ -13,6 +13,7 @@ use Rattle.groups.specs.GroupCases.{GroupCases}
 use Rattle.offsets.specs.OffsetCases.{OffsetCases}
 use Rattle.folding.specs.FoldCases.{FoldCases}
 use Rattle.block.specs.BlockCases.{BlockCases}
+use Rattle.block.specs.StretchCases.{StretchCases}
 use Rattle.pack.specs.PackedCases.{PackedCases}
 use Rattle.tiles.specs.TileCases.{TileCases}
 use Rattle.tile_questions.specs.TileQuestionCases.{TileQuestionCases}
@@ -47,6 +48,7 @@ pub record Pinned : Type 0 where
   -- tiles
   pub tile-numbers : TileCases
   pub blocks : BlockCases
+  pub stretches : StretchCases
   pub packed : PackedCases
   pub work : WorkCases
   -- the job file and what is printed

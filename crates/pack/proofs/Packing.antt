@@ -1,12 +1,11 @@
 -- Packed blocks, word by word and lane by lane: place n of lane d is word width × d + n, whose two digits to the base `width` give them back.
--- To store a lane and zeros up to its end makes the packed front one lane longer, and zeros stored in the lanes not filled complete it.
+-- A band's words and the zeros up to its lanes' ends make the packed front as many lanes longer, and zeros stored in the lanes not filled complete it.
 -- Assumes nothing.
 use mathlib.Core.Path.{_≡_, refl, ap, sym, _∙_}
 use mathlib.Core.Bool.{Bool, true, false, cond, _&&_, and-false}
 use mathlib.Core.List.{List}
 use Prim.Native.Nat.{ℕ, zero, suc, _+_, _-_, _*_, _/_, _%_, _<_, _≤_}
-use native.Mathlib.Nat.{mul-comm, mul-suc, mul-le-mul-left, le-div-iff-mul-le}
-use native.Mathlib.Numerals.{add-one}
+use native.Mathlib.Nat.{mul-comm, mul-le-mul-left, le-div-iff-mul-le}
 use native.Mathlib.Omega.{arith}
 use borrow.Author.Tests.{ltb-true, lt-ltb, le-ltb}
 use lib.Arith.{digits-div, digits-mod}
@@ -14,6 +13,8 @@ use lib.Dec.{ltb}
 use lib.ListN.{length}
 use Rattle.words.specs.Fronts.{stored, front}
 use Rattle.words.proofs.Fronts.{stored-front}
+use Rattle.stretch.specs.StretchLanes.{lanesStored}
+use Rattle.stretch.proofs.StretchLanes.{lanes-more, lanes-ext, lanes-front}
 use Rattle.pack.specs.Packed.{packedWord}
 
 -- ---- the digits of a place
@@ -57,27 +58,29 @@ packed-ext width count filled {f} {g} e x = go (ltb (x % width) count) (ltb-true
     go true h false k = refl
     go false h b k = refl
 
--- ---- the lanes
+-- ---- the packed lanes
 
 module _ (width count filled : ℕ) (f : ℕ → ℕ → ℕ) (xs : List ℕ) where
   -- the first `lanes` lanes are packed
   abbrev pub packed : ℕ → List ℕ
   packed lanes = front (width * lanes) (packedWord width count filled f) xs
 
-  -- one lane more, stored and cleared up to its end
-  pub packed-lane : (d : ℕ) {out lane after : List ℕ} → count ≤ width → d < filled → width * d + width ≤ length xs → out ≡ packed d
-      → lane ≡ stored count (λ r. f r d) (width * d) out → after ≡ stored (width * d + width - (width * d + count)) (λ r. 0) (width * d + count) lane
-      → after ≡ packed (d + 1)
-  packed-lane d {lane = lane} narrow k fits e p q =
+  -- m lanes more: their words stored, and zeros up to their ends
+  pub packed-band : (d m : ℕ) {out lanes after : List ℕ} → count ≤ width → d + m ≤ filled → width * (d + m) ≤ length xs → out ≡ packed d
+      → lanes ≡ lanesStored m count width (λ q r. f r (d + q)) (width * d) out → after ≡ lanesStored m (width - count) width (λ q r. 0) (width * d + count) lanes
+      → after ≡ packed (d + m)
+  packed-band d m {out} narrow k fits e p q =
       let g = packedWord width count filled f in
-      let one-more : width * (d + 1) ≡ width * d + width = rw add-one (mul-suc width d) in
-      let in-lane : lane ≡ front (width * d + count) g xs
-      = p ∙ ap (stored count (λ r. f r d) (width * d)) e
-      ∙ stored-front count (width * d) (λ r. f r d) g xs (omega arith) (λ r h. sym (packed-at width count filled f r d h narrow k)) in
-      q ∙ ap (stored (width * d + width - (width * d + count)) (λ r. 0) (width * d + count)) in-lane
-      ∙ stored-front (width * d + width - (width * d + count)) (width * d + count) (λ r. 0) g xs (omega arith)
-      (λ i h. sym (ap g (omega arith) ∙ packed-past width count filled f (count + i) d (omega arith) (omega arith)))
-      ∙ ap (λ (n : ℕ). front n g xs) (omega arith)
+      let v : ℕ → ℕ → ℕ = λ q r. g (width * (d + q) + r) in
+      let words : lanesStored m count width (λ q r. f r (d + q)) (width * d) out ≡ lanesStored m count width v (width * d) out
+      = lanes-ext width m count (λ q r. f r (d + q)) v (width * d) out (λ q r b h. sym (packed-at width count filled f r (d + q) h narrow (omega arith))) in
+      q
+      ∙ ap (lanesStored m (width - count) width (λ q r. 0) (width * d + count)) (p ∙ words)
+      ∙ lanes-more width m count (width - count) v (λ q r. 0) (width * d) out (omega arith)
+      (λ q r b h. sym (packed-past width count filled f (count + r) (d + q) (omega arith) (omega arith)))
+      ∙ ap (λ (n : ℕ). lanesStored m n width v (width * d) out) (omega arith)
+      ∙ ap (lanesStored m width width v (width * d)) e
+      ∙ lanes-front width g xs d m fits
 
   -- the lanes not filled, cleared
   pub packed-rest : (depth : ℕ) {out after : List ℕ} → filled ≤ depth → width * depth ≤ length xs → out ≡ packed filled

@@ -1,2 +1,2 @@
-// Packing: a block of a tensor goes into the work slice lane by lane.
+// Packing: a block of a tensor goes into the work slice stretch by stretch, a band of lanes at a time.
 pub mod pack;

@@ -1,40 +1,42 @@
 ghost use mathlib.Core.Path.{_≡_};
-ghost use Prim.Native.Nat.{_+_, _-_, _*_, _≤_};
+ghost use Prim.Native.Nat.{_+_, _-_, _*_, _<_, _≤_};
 ghost use lib.ListN.{length, getD};
-ghost use Rattle.words.specs.Loops.{Within};
 ghost use Rattle.words.specs.Fronts.{stored, front};
-ghost use Rattle.limits.specs.Limits.{blockLimit};
-ghost use Rattle.block.specs.Places.{placeOf, asStep, Stepped};
+ghost use Rattle.block.specs.Places.{placeOf};
+ghost use Rattle.stretch.specs.StretchLanes.{lanesStored, LanesRoom};
 ghost use Rattle.pack.specs.Packed.{packedWord};
-ghost use Rattle.pack.specs.PackNeeds.{Packable};
+ghost use Rattle.pack.specs.PackNeeds.{BandIn, Packable};
 use block::block::Block;
-use block::block::Step;
-use block::place::next_place;
+use block::block::step_at;
+use block::block::wide;
 use limits::limits::Limits;
+use stretch::stretch::pack_stretch;
 
-// A lane: the words at the places of a block, one after the other from `to` on.
-fn pack_lane(
+// The words at the places of a block in each of m lanes from lane d on, stretch by stretch.
+fn pack_band(
     src: &[u32],
-    from: u64,
+    starts: &[u64; Limits::DEPTH],
+    d: usize,
+    m: usize,
     offsets: &[u64; Limits::BLOCK],
+    lengths: &[u8; Limits::BLOCK],
     count: usize,
-    step: Step,
+    width: usize,
     out: &mut [u32],
     to: usize,
 )
-    requires { ⌜ (count ≤ blockLimit)
-        × Stepped count (now offsets) (asStep step)
-        × Within count (placeOf from (now offsets)) (length (now src))
-        × (to + count ≤ length (now out)) ⌝ }
+    requires { ⌜ BandIn (now starts) d m (now offsets) (now lengths) count width to (length (now src)) (length (now out)) ⌝ }
     ensures { λ _. ⌜ now (out .exit)
-        ≡ stored count (λ r. getD (now (src .entry)) (placeOf from (now (offsets .entry)) r) 0) to (now (out .entry)) ⌝ }
+        ≡ lanesStored m count width
+        (λ q r. getD (now (src .entry)) (placeOf (getD (now (starts .entry)) (d + q) 0) (now (offsets .entry)) r) 0)
+        to (now (out .entry)) ⌝ }
 {
-    let mut at = std::num::wrapping_add_u64(from, offsets[0]);
     let mut r: usize = 0;
     while r < count {
-        out[to + r] = src[at as usize];
-        r += 1;
-        at = next_place(at, from, offsets, step, r);
+        let n = wide(lengths[r]);
+        let step = step_at(offsets, r);
+        pack_stretch(src, starts, d, m, offsets[r], step, n, width, out, to + r);
+        r += n;
     }
 }
 
@@ -50,7 +52,28 @@ fn clear(out: &mut [u32], to: usize, end: usize)
     }
 }
 
+// n zeros in each of m lanes, from place `to` of the first on.
+fn clear_band(out: &mut [u32], to: usize, n: usize, width: usize, m: usize)
+    requires { ⌜ LanesRoom m n width to (length (now out)) ⌝ }
+    ensures { λ _. ⌜ now (out .exit) ≡ lanesStored m n width (λ q r. 0) to (now (out .entry)) ⌝ }
+{
+    let mut q: usize = 0;
+    while q < m {
+        let at = to + width * q;
+        clear(out, at, at + n);
+        q += 1;
+    }
+}
+
+// How many of the lanes that are left make a band: enough that the set-up of a stretch does not count, and few enough that what they read stays near.
+fn band(left: usize) -> usize
+    ensures { λ r. ⌜ (r ≤ left) × (0 < left → 0 < r) ⌝ }
+{
+    if left < 16 { left } else { 16 }
+}
+
 // A packed block: place n of lane d at n + width × d, and 0 past the edge. `starts` has where the block begins at each of the first `filled` depth counts.
+// It is packed a band of lanes at a time, each stretch in all lanes of the band.
 pub fn pack(
     src: &[u32],
     starts: &[u64; Limits::DEPTH],
@@ -68,14 +91,26 @@ pub fn pack(
         (now (out .entry)) ⌝ }
 {
     let offsets = block.offsets;
+    let lengths = block.lengths;
     let count = block.count;
-    let step = block.step;
     let mut d: usize = 0;
     while d < filled {
+        let m = band(filled - d);
         let lane = width * d;
-        pack_lane(src, starts[d], &offsets, count, step, out, lane);
-        clear(out, lane + count, lane + width);
-        d += 1;
+        pack_band(
+            src,
+            starts,
+            d,
+            m,
+            &offsets,
+            &lengths,
+            count,
+            width,
+            out,
+            lane,
+        );
+        clear_band(out, lane + count, width - count, width, m);
+        d += m;
     }
     clear(out, width * filled, width * depth);
 }

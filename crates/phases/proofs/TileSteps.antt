@@ -30,13 +30,13 @@ use Rattle.pack.specs.PackNeeds.{Packable}
 use Rattle.pack.specs.Packed.{packedWord}
 use Rattle.pack.proofs.Packing.{packed-ext}
 use Rattle.kernel.specs.Kernel.{columnSum}
-use Rattle.store.specs.declared.store.Factors.{Factors}
-use Rattle.store.specs.Added.{addedTo}
+use Rattle.accumulate.specs.declared.accumulate.Factors.{Factors}
+use Rattle.accumulate.specs.Added.{addedTo}
 use Rattle.copy.specs.Copied.{columnCopied}
 use Rattle.copy.specs.CopyNeeds.{Copyable}
-use Rattle.multiply.specs.declared.multiply.Packing.{Packing}
-use Rattle.multiply.specs.MultiplyNeeds.{Multipliable}
-use Rattle.multiply.specs.Stored.{tileSum}
+use Rattle.columns.specs.declared.column_stores.Packing.{Packing}
+use Rattle.columns.specs.ColumnNeeds.{Multipliable}
+use Rattle.columns.specs.Stored.{tileSum}
 use Rattle.tiles.specs.declared.grid.Tile.{Tile}
 use Rattle.tiles.specs.Cut.{Cut}
 use Rattle.tiles.specs.Grid.{Fits}
@@ -63,8 +63,8 @@ packing G filled = record { rows = G .rows; cols = G .cols; depth = G .depth; fi
 
 module _ (p : Plan) (G : Cut) (x : Tile) where
   -- a block has a place for each of its counts
-  in-lane : (s : Side) {o : Operand} {b : Block} → SideBlock p G x o s b → Fits G → InLane (tileOn G s) (b .count) (b .offsets) (asStep (b .step))
-  in-lane s r f = record { fits = rw (r .used) (width-le (sizeOn G s) (tileOn G s) (blockIn x s)); narrow = narrow s f; stepped = rw (r .used) (r .step) }
+  in-lane : (s : Side) {o : Operand} {b : Block} → SideBlock p G x o s b → Fits G → InLane (tileOn G s) (b .count)
+  in-lane s r f = record { fits = rw (r .used) (width-le (sizeOn G s) (tileOn G s) (blockIn x s)); narrow = narrow s f }
 
   -- its counts are the group's
   count-in : (s : Side) {o : Operand} {b : Block} → SideBlock p G x o s b → {l : ℕ} → l < b .count → blockIn x s * tileOn G s + l < sizeOn G s
@@ -82,6 +82,7 @@ module _ (p : Plan) (G : Cut) (x : Tile) where
     side-packable fits begins clear =
         record {
           lane = in-lane s r fits;
+          measured = rw (r .used) (r .lengths);
           lanes = rw f (width-le (G .K) (G .depth) (x .panel));
           shallow = fits .depth-few;
           reads =
@@ -147,11 +148,13 @@ module _ (p : Plan) (G : Cut) (x : Tile) where
   module _ {rows cols : Block} (r : SideBlock p G x D left rows) (c : SideBlock p G x D right cols) {from : ℕ} (e : from ≡ atBatch p (x .batch) D)
       {filled : ℕ} (f : filled ≡ panelWidth G x) where
     pub multipliable : {d work : ℕ} → Fits G → Begins G x → OutputClear p G D d → packs G ≤ work
-        → Multipliable from (rows .offsets) (rows .count) (asStep (rows .step)) (cols .offsets) (cols .count) (asStep (cols .step)) (packing G filled) d work
+        → Multipliable from (rows .offsets) (rows .lengths) (rows .count) (cols .offsets) (cols .count) (asStep (cols .step)) (packing G filled) d work
     multipliable fits begins clear room =
         record {
           row = in-lane left r fits;
           column = in-lane right c fits;
+          measured = rw (r .used) (r .lengths);
+          stepped = rw (c .used) (c .step);
           lanes = rw f (width-le (G .K) (G .depth) (x .panel));
           shallow = fits .depth-few;
           writes = places-in D r c e begins clear;

@@ -10,7 +10,7 @@ use Rattle.contraction.specs.Operands.{Operand}
 use Rattle.groups.specs.Groups.{Label}
 use Rattle.offsets.specs.Counts.{offsetIn}
 use Rattle.block.specs.declared.block.Block.{Block}
-use Rattle.block.specs.Places.{asStep, Stepped}
+use Rattle.block.specs.Places.{asStep, Stepped, Measured}
 
 -- the address word of a count of g in tensor o, moved by `from`
 abbrev pub wordAt : Operand → ℕ → List Label → ℕ → ℕ
@@ -24,4 +24,5 @@ scatterVector o from g first count = front count (λ k. wordAt o from g (first +
 pub record Blocked (o : Operand) (g : List Label) (first count : ℕ) (b : Block) : Type 0 where
   pub used : b .count ≡ count
   pub step : Stepped count (b .offsets) (asStep (b .step))
+  pub lengths : Measured count (b .offsets) (b .lengths)
   pub offsets : (k : ℕ) → k < count → getD (b .offsets) k 0 ≡ word 64 (offsetIn (wordOf 64) o g (first + k))

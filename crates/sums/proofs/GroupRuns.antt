@@ -6,6 +6,7 @@ use Prim.Native.Nat.{ℕ, _+_, _*_, _<_}
 use native.Mathlib.Nat.{mul-le-mul-left}
 use native.Mathlib.Omega.{arith}
 use Rattle.words.specs.Words.{word, wordOf}
+use Rattle.words.specs.Stepped.{stepped}
 use Rattle.contraction.specs.Operands.{Operand}
 use Rattle.groups.specs.Groups.{Label, size}
 use Rattle.offsets.specs.Counts.{offsetIn}
@@ -14,7 +15,7 @@ use Rattle.offsets.specs.Offsets.{wordsIn, Words}
 use Rattle.offsets.specs.FirstLabel.{firstLabel}
 use Rattle.offsets.proofs.Runs.{offset-first, offset-run}
 use Rattle.sums.specs.declared.walk.Walk.{Walk}
-use Rattle.sums.specs.Walk.{stepped, reached, Walks}
+use Rattle.sums.specs.Walk.{reached, Walks}
 
 -- a step from a word that was reduced twice
 step-word : (x y z : ℕ) → word 64 (word 64 (x + word 64 y) + z) ≡ word 64 (x + (y + z))

@@ -7,6 +7,7 @@ use lib.ListN.{length, getD}
 use Rattle.words.specs.Sums.{sumTo}
 use Rattle.words.specs.Words.{word, wordOf}
 use Rattle.words.specs.Loops.{Within}
+use Rattle.words.specs.Stepped.{stepped}
 use Rattle.limits.specs.Limits.{labelsLimit, productLimit}
 use Rattle.contraction.specs.Operands.{Operand, A, B}
 use Rattle.groups.specs.Groups.{Label, size}
@@ -16,10 +17,6 @@ use Rattle.offsets.specs.declared.offsets.Offsets.{Offsets}
 use Rattle.offsets.specs.Offsets.{wordsIn}
 use Rattle.offsets.specs.FirstLabel.{firstLabel}
 use Rattle.sums.specs.declared.walk.Walk.{Walk}
-
--- the address word v steps from x
-abbrev pub stepped : ℕ → ℕ → ℕ → ℕ
-stepped x s v = word 64 (x + v * s)
 
 -- the address word in a tensor at a count of a group, from x
 abbrev pub reached : Operand → ℕ → List Label → ℕ → ℕ

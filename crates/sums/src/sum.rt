@@ -1,7 +1,8 @@
 ghost use mathlib.Core.Path.{_≡_};
 ghost use Rattle.words.specs.Words.{word};
+ghost use Rattle.words.specs.Stepped.{stepped};
 ghost use Rattle.offsets.specs.Offsets.{wordsIn};
-ghost use Rattle.sums.specs.Walk.{stepped, dot, sumFrom, over, RunReadable, Readable, Walks};
+ghost use Rattle.sums.specs.Walk.{dot, sumFrom, over, RunReadable, Readable, Walks};
 use super::walk::Walk;
 use contraction::contraction::Contraction;
 use offsets::offsets::Offsets;

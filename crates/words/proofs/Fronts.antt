@@ -1,16 +1,18 @@
 -- A list whose first words were stored one after the other: a store behind the front makes it one word longer, and so do words stored in a row.
+-- Rows of words that are apart may be stored in either order.
 -- Assumes nothing.
 use mathlib.Core.Path.{_≡_, refl, ap, sym, _∙_}
 use mathlib.Core.List.{List, _∷_, _++_, append-nil}
 use Prim.Native.Nat.{ℕ, zero, suc, _+_, _<_, _≤_}
-use native.Mathlib.Nat.{add-zero}
+use native.Mathlib.Nat.{add-assoc, add-zero}
 use native.Mathlib.Numerals.{add-one}
 use native.Mathlib.Omega.{arith}
 use lib.ListN.{length, getD, drop, set, length-append, length-drop, List·getD-append}
-use lib.Seq.{append-snoc, drop-cons, drop-at, drop-length, set-at}
+use lib.Seq.{append-snoc, drop-cons, drop-at, drop-length, set-at, set-comm}
 use Rattle.words.specs.Lists.{tabulate}
 use Rattle.words.specs.Loops.{each, put}
 use Rattle.words.specs.Fronts.{stored, front}
+use Rattle.words.proofs.Loops.{each-ext, each-more, each-swap}
 use Rattle.words.proofs.Tabulate.{length-tabulate, getD-tabulate, tabulate-ext, tabulate-suc}
 
 pub length-front : (n : ℕ) (f : ℕ → ℕ) (xs : List ℕ) → n ≤ length xs → length (front n f xs) ≡ length xs
@@ -68,3 +70,30 @@ stored-none v to xs = refl
 pub stored-set : (n : ℕ) (v : ℕ → ℕ) (to : ℕ) (xs : List ℕ) {ys : List ℕ} {w : ℕ} → ys ≡ stored n v to xs → w ≡ v n → set ys (to + n) w ≡ stored (n + 1) v to xs
 unfolding stored each put
 stored-set n v to xs e f = rw (add-one, e, f)
+
+-- words stored behind those that are, and the same words said another way
+pub stored-more : (r n : ℕ) (v w : ℕ → ℕ) (to : ℕ) (xs : List ℕ) → ((k : ℕ) → k < n → w k ≡ v (r + k)) → stored n w (to + r) (stored r v to xs) ≡ stored (r + n) v to xs
+unfolding stored
+stored-more r n v w to xs e =
+    each-more r n (λ k. put (λ was. v k) (to + k)) (λ k. put (λ was. w k) (to + r + k)) xs (λ k h s. rw (e k h, add-assoc to r k))
+
+pub stored-ext : (n : ℕ) (v w : ℕ → ℕ) (to : ℕ) (xs : List ℕ) → ((k : ℕ) → k < n → v k ≡ w k) → stored n v to xs ≡ stored n w to xs
+unfolding stored
+stored-ext n v w to xs e = each-ext {f = λ k. put (λ was. v k) (to + k)} {g = λ k. put (λ was. w k) (to + k)} n (λ k h s. rw (e k h)) xs
+
+-- m words from x on, and n words from y on, behind them
+pub stored-apart : (m n : ℕ) (v w : ℕ → ℕ) (x y : ℕ) (xs : List ℕ) → x + m ≤ y → stored m v x (stored n w y xs) ≡ stored n w y (stored m v x xs)
+unfolding stored put
+stored-apart m n v w x y xs h =
+    each-swap (λ i s. set s (x + i) (v i)) (each n (λ j s. set s (y + j) (w j))) m
+    (λ i a s. sym (each-swap (λ j s. set s (y + j) (w j)) (λ s. set s (x + i) (v i)) n (λ j b s. set-comm s (x + i) (y + j) (v i) (w j) (λ e. omega arith)) s))
+    xs
+
+-- one word, and two
+pub stored-one : (v : ℕ → ℕ) (to : ℕ) (xs : List ℕ) {w : ℕ} → w ≡ v 0 → set xs to w ≡ stored 1 v to xs
+unfolding stored each put
+stored-one v to xs e = rw (add-zero to, e)
+
+pub stored-two : (v : ℕ → ℕ) (to : ℕ) (xs : List ℕ) {w u : ℕ} → w ≡ v 0 → u ≡ v 1 → set (set xs to w) (to + 1) u ≡ stored 2 v to xs
+unfolding stored each put
+stored-two v to xs e f = rw (add-zero to, e, f)

@@ -1,7 +1,7 @@
 -- Laws of a loop over counts, on any state. What every turn keeps between two states, the loop keeps; with one state or with equal ones that says what a loop
--- keeps, what it makes of equal turns, and that idle turns may be left out.
+-- keeps, what it makes of equal turns, and that idle turns may be left out. Two loops whose turns don't meet are one.
 -- Assumes nothing.
-use mathlib.Core.Path.{_≡_, refl, ap, _∙_}
+use mathlib.Core.Path.{_≡_, refl, ap, sym, _∙_}
 use mathlib.Core.Logic.{_≢_}
 use Prim.Native.Nat.{ℕ, zero, suc, _+_, _<_}
 use native.Mathlib.Nat.{add-zero, add-suc}
@@ -36,6 +36,10 @@ module _ {S : Type 0} where
   each-add m zero body s = ap (λ (k : ℕ). each k body s) (add-zero m)
   each-add m (suc n) body s = ap (λ (k : ℕ). each k body s) (add-suc m n) ∙ ap (body (m + n)) (each-add m n body s)
 
+  -- r turns and n more, which do what the turns after r do
+  pub each-more : (r n : ℕ) (body more : ℕ → S → S) (s : S) → ((k : ℕ) → k < n → (u : S) → more k u ≡ body (r + k) u) → each n more (each r body s) ≡ each (r + n) body s
+  each-more r n body more s e = each-ext {f = more} {g = λ k. body (r + k)} n e (each r body s) ∙ sym (each-add r n body s)
+
   -- turns that do nothing, and all but one that do nothing
   pub each-none : (f : ℕ → S → S) (n : ℕ) → ((k : ℕ) → k < n → (s : S) → f k s ≡ s) → (s : S) → each n f s ≡ s
   each-none f n idle s = each-keeps (λ s′. s′ ≡ s) f n (λ k h s′ e. idle k h s′ ∙ e) s refl
@@ -48,3 +52,16 @@ module _ {S : Type 0} where
       go : Dec (n ≡ m) → (m < n → each n f s ≡ f m s) → f n (each n f s) ≡ f m s
       go (yes e) r = ap (f n) (each-none f n (λ k h. idle k (omega arith) (λ z. omega arith)) s) ∙ ap (λ (k : ℕ). f k s) e
       go (no ne) r = idle n (omega arith) ne (each n f s) ∙ r (omega arith)
+
+  -- a change that every turn lets pass may come before the loop or after it
+  pub each-swap : (f : ℕ → S → S) (g : S → S) (n : ℕ) → ((k : ℕ) → k < n → (s : S) → f k (g s) ≡ g (f k s)) → (s : S) → each n f (g s) ≡ g (each n f s)
+  each-swap f g n pass s = each-relates (λ s s′. s ≡ g s′) f f n (λ k h s s′ e. ap (f k) e ∙ pass k h s′) (g s) s refl
+
+  -- one loop after the other, where each turn of the second lets the later turns of the first pass
+  pub each-zip : (f g : ℕ → S → S) (n : ℕ) → ((i j : ℕ) → i < j → j < n → (s : S) → f i (g j s) ≡ g j (f i s)) → (s : S)
+      → each n f (each n g s) ≡ each n (λ k s. f k (g k s)) s
+  unfolding each
+  each-zip f g zero pass s = refl
+  each-zip f g (suc n) pass s =
+      ap (f n) (each-swap f (g n) n (λ k h. pass k n h (omega arith)) (each n g s))
+      ∙ ap (λ (u : S). f n (g n u)) (each-zip f g n (λ i j h k. pass i j h (omega arith)) s)

@@ -3,11 +3,12 @@
 use mathlib.Core.Path.{_≡_, refl, sym, ap, _∙_, subst}
 use mathlib.Core.Logic.{_≢_, _⊎_, inl, inr}
 use mathlib.Core.List.{List}
-use Prim.Native.Nat.{ℕ, zero, suc, _<_}
+use Prim.Native.Nat.{ℕ, zero, suc, _+_, _<_}
 use native.Mathlib.Nat.{not-suc-le-zero}
 use native.Mathlib.Decide.{decLt}
+use native.Mathlib.Numerals.{add-one}
 use native.Mathlib.Omega.{arith}
-use lib.ListN.{length, getD, length-set}
+use lib.ListN.{length, getD, set, length-set}
 use lib.Seq.{getD-set-same, getD-set-other, ext-getD}
 use Rattle.words.specs.Loops.{each, put, Within}
 use Rattle.words.proofs.Loops.{each-keeps}
@@ -62,6 +63,12 @@ length-put g x D = length-set D x (g (getD D x 0))
 
 pub length-each : (n : ℕ) (body : ℕ → List ℕ → List ℕ) → ((k : ℕ) (D : List ℕ) → length (body k D) ≡ length D) → (D : List ℕ) → length (each n body D) ≡ length D
 length-each n body keep D = each-keeps (λ E. length E ≡ length D) body n (λ k h E e. keep k E ∙ e) D refl
+
+-- a loop of stores, one turn more
+pub put-next : (g : ℕ → ℕ → ℕ) (place : ℕ → ℕ) (D : List ℕ) (k : ℕ) {E : List ℕ} {p v : ℕ} → E ≡ each k (λ j. put (g j) (place j)) D → p ≡ place k → v ≡ g k (getD E p 0)
+    → set E p v ≡ each (k + 1) (λ j. put (g j) (place j)) D
+unfolding each put
+put-next g place D k e a t = rw (add-one, ← e, ← a, t)
 
 module _ {Ix : Type 0} (at : Ix → ℕ) (In : Ix → Type 0) (inj : (q r : Ix) → In q → In r → at q ≡ at r → q ≡ r) where
   -- an index that P does not have keeps its word

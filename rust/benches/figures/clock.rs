@@ -22,7 +22,12 @@ impl fmt::Display for Pace {
 
 /// The best mean time that each had at one of its turns. All run equally often.
 pub fn best_times<const N: usize>(pace: Pace, mut contenders: [&mut dyn FnMut(); N]) -> [Duration; N] {
-    let mut best = [Duration::MAX; N];
+    best_of(pace, &mut contenders).try_into().expect("a time for each contender")
+}
+
+/// The same for any number of contenders.
+pub fn best_of(pace: Pace, contenders: &mut [impl FnMut()]) -> Vec<Duration> {
+    let mut best = vec![Duration::MAX; contenders.len()];
     for _ in 0..pace.turns {
         for (run, best) in contenders.iter_mut().zip(&mut best) {
             *best = mean_time(pace.repeats, run).min(*best);
@@ -33,7 +38,7 @@ pub fn best_times<const N: usize>(pace: Pace, mut contenders: [&mut dyn FnMut();
 
 /// By the wall clock: what else the machine does can make a time longer, never shorter, and the best turn counts. A time
 /// of zero would make any ratio look met, so it ends the run.
-fn mean_time(repeats: u32, run: &mut dyn FnMut()) -> Duration {
+fn mean_time(repeats: u32, run: &mut impl FnMut()) -> Duration {
     let start = Instant::now();
     (0..repeats).for_each(|_| run());
     let mean = start.elapsed() / repeats;

@@ -23,7 +23,7 @@ impl Tensor {
         Self { letters, extents: extents.to_vec(), strides: strides.to_vec(), base, words }
     }
 
-    fn layout(&self) -> Layout {
+    pub fn layout(&self) -> Layout {
         Layout::new(self.letters.as_bytes(), &self.extents, &self.strides, self.base)
     }
 

@@ -2,28 +2,33 @@
 //! into docs/PERFORMANCE.md and draws the plots beside it. Ends with status 1 where a required ratio is missed, and
 //! panics where two contenders leave different words.
 
+mod blocks;
 mod clock;
 mod contenders;
 mod contraction;
+mod engines;
 mod measured;
+mod paged;
 mod shapes;
 mod shown;
 
 use measured::contest::{Case, Times};
 use measured::required::Required;
-use measured::{calls, cases, forms, one_tile, required, scaling};
-use shown::{bars, document, lines, machine, tables};
+use measured::{before, calls, cases, forms, one_tile, required, scaling, stretches};
+use shown::{archives, bars, document, lines, machine, tables};
 use std::process::ExitCode;
 
 fn main() -> ExitCode {
     let (cases, one_tile, scaling) = (measure(cases::all()), one_tile::all(), measure(scaling::all()));
     let (calls, forms) = (calls::all(), forms::measure());
+    let (stretches, before) = (stretches::all(), before::all(&cases));
     let required = required::all(&cases, &one_tile);
     let sections = [
         ("Required ratios", tables::required(&required)),
-        ("Cases", tables::cases(&cases) + "\n" + &tables::layouts(&cases)),
+        ("Cases", tables::cases(&cases) + "\n" + &tables::layouts(&cases) + &archives::cases(&before)),
         ("Scaling", tables::scaling(&scaling)),
         ("One tile", tables::one_tile(&one_tile)),
+        ("Blocks by stretches", archives::blocks(&stretches)),
         ("Calls", tables::calls(&calls)),
         ("Forms of the odometer", tables::forms(&forms)),
         ("Machine", machine::machine()),

@@ -5,6 +5,7 @@ use crate::common::groups::{Cut, Group, Groups};
 use crate::common::notes::{note_c, note_factors, note_labels, note_strides};
 use crate::common::notes_empty::note_empty;
 use crate::common::seen::Seen;
+use crate::common::stretches::{classes, CLASSES};
 
 pub fn note_contraction(seen: &mut Seen, case: &Case) {
     note_factors(seen, case);
@@ -54,13 +55,15 @@ fn note_blocks(seen: &mut Seen, case: &Case, cut: &Cut) {
         seen.note(&format!("scattered block, {name}"), steps.contains(&None));
         seen.note(&format!("even block that counts up, {name}"), steps.iter().flatten().any(|step| *step > 0));
         seen.note(&format!("even block that counts down, {name}"), steps.iter().flatten().any(|step| *step < 0));
+        let classes = classes(t, group, width);
+        for class in CLASSES {
+            seen.note(&format!("block of {class}, {name}"), classes.contains(&class));
+        }
     }
 }
 
 /// The step of each block that has two counts or more, none where it is scattered.
 fn steps(t: &Tensor, group: &Group, width: u64) -> Vec<Option<i64>> {
-    let size = group.size();
-    let blocks = (0..size.div_ceil(width)).map(|block| block * width..size.min((block + 1) * width));
-    let several = blocks.filter(|counts| counts.end - counts.start > 1);
+    let several = group.blocks(width).filter(|counts| counts.end - counts.start > 1);
     several.map(|counts| group.even_step(t, counts)).collect()
 }

@@ -10,6 +10,7 @@ mod layout_words;
 mod limits;
 mod random;
 mod refusals;
+mod stretches;
 mod tile_driver;
 mod tile_limits;
 mod tile_lists;

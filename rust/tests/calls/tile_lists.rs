@@ -11,8 +11,10 @@ use crate::common::notes_empty::note_empty;
 use crate::common::request::{work_needed, Request};
 use crate::common::rng::Rng;
 use crate::common::seen::Seen;
+use crate::common::stretches::{classes, CLASSES};
 use crate::common::tile_call::{check_ask, check_run};
 use nezgrak::{OutputIndex, TileSizes};
+use std::ops::Range;
 
 const TURNS: usize = 2_500;
 
@@ -73,12 +75,12 @@ type Make = fn(&mut Rng, &Kind) -> Case;
 
 #[test]
 fn random_lists() {
-    lists(accepted).each_at_least(39 + 39 + 6, 50);
+    lists(accepted).each_at_least(39 + 39 + 6 + 4 * 4, 50);
 }
 
 #[test]
 fn random_lists_with_c() {
-    lists(accepted_with_c).each_at_least(45 + 45 + 6 + 4, 50);
+    lists(accepted_with_c).each_at_least(45 + 45 + 6 + 4 + 6 * 4, 50);
 }
 
 fn lists(make: Make) -> Seen {
@@ -93,7 +95,9 @@ fn lists(make: Make) -> Seen {
             note_cut(&mut seen, &case, &list.model.cut);
             note_empty(&mut seen, &case);
             note_c(&mut seen, &case);
+            let start = list.done();
             (0..1 + rng.below(12)).for_each(|_| turn(&mut rng, &mut list, &mut seen));
+            note_stretches(&mut seen, &case, &list.model.cut, start..list.done());
         }
     }
     seen
@@ -188,13 +192,35 @@ fn folds(case: &Case, group: &Group) -> Vec<u32> {
 
 /// Whether a group, cut into blocks, has a scattered one in a tensor, or an even one with a step below 0 or of 0.
 fn note_blocks(seen: &mut Seen, name: &str, t: &Tensor, group: &Group, width: u64) {
-    let counts = |block: u64| block * width..group.size().min((block + 1) * width);
-    let blocks = (0..group.size().div_ceil(width)).map(counts).filter(|counts| counts.end - counts.start > 1);
+    let blocks = group.blocks(width).filter(|counts| counts.end - counts.start > 1);
     let steps: Vec<Option<i64>> = blocks.map(|counts| group.even_step(t, counts)).collect();
     seen.note(&format!("scattered {name}"), steps.contains(&None));
     seen.note(&format!("{name} counting down"), steps.iter().flatten().any(|step| *step < 0));
     if !name.ends_with('D') {
         seen.note(&format!("step 0 in {name}"), steps.contains(&Some(0)));
+    }
+}
+
+/// How many tiles were run whose rows and columns have how many stretches, in each tensor that has any.
+fn note_stretches(seen: &mut Seen, case: &Case, cut: &Cut, tiles: Range<u64>) {
+    let (groups, tiles) = (Groups::of(case), tiles.map(|n| cut.tile(n)).collect::<Vec<_>>());
+    for (name, t) in case.named() {
+        if name != "B" {
+            let classes = classes(t, &groups.row, cut.tile_rows);
+            note_classes(seen, &format!("rows of {name}"), tiles.iter().map(|tile| classes[tile[3] as usize]));
+        }
+        if name != "A" {
+            let classes = classes(t, &groups.column, cut.tile_cols);
+            note_classes(seen, &format!("columns of {name}"), tiles.iter().map(|tile| classes[tile[1] as usize]));
+        }
+    }
+}
+
+/// The classes are those of the blocks of the tiles.
+fn note_classes<'a>(seen: &mut Seen, name: &str, classes: impl Iterator<Item = &'a str> + Clone) {
+    for class in CLASSES {
+        let tiles = classes.clone().filter(|met| *met == class);
+        seen.add(&format!("tile with {class} in {name}"), tiles.count());
     }
 }
 

@@ -24,17 +24,28 @@ impl Group {
         }
     }
 
-    /// The step of these counts in a tensor where they are even, 0 where there is one or none.
-    pub fn even_step(&self, t: &Tensor, counts: Range<u64>) -> Option<i64> {
+    /// Where these counts are in a tensor.
+    pub fn places(&self, t: &Tensor, counts: Range<u64>) -> Vec<i64> {
         let place = |count| {
             let mut values: Values = [0; 128];
             self.set(&mut values, count);
             address(t, &values)
         };
-        let places: Vec<i64> = counts.map(place).collect();
+        counts.map(place).collect()
+    }
+
+    /// The step of these counts in a tensor where they are even, 0 where there is one or none.
+    pub fn even_step(&self, t: &Tensor, counts: Range<u64>) -> Option<i64> {
+        let places = self.places(t, counts);
         let steps: Vec<i64> = places.windows(2).map(|two| two[1] - two[0]).collect();
         let first = steps.first().copied().unwrap_or(0);
         steps.iter().all(|step| *step == first).then_some(first)
+    }
+
+    /// The counts of each block of this width.
+    pub fn blocks(&self, width: u64) -> impl Iterator<Item = Range<u64>> {
+        let size = self.size();
+        (0..size.div_ceil(width)).map(move |block| block * width..size.min((block + 1) * width))
     }
 }
 
@@ -130,5 +141,15 @@ impl Cut {
 
     pub fn number(&self, batch: u64, column_block: u64, panel: u64, row_block: u64) -> u64 {
         ((batch * self.column_blocks + column_block) * self.panels + panel) * self.row_blocks + row_block
+    }
+
+    /// Batch count, column block, panel and row block of a tile.
+    pub fn tile(&self, n: u64) -> [u64; 4] {
+        let Self { row_blocks, panels, column_blocks, .. } = *self;
+        let (strip, row_block) = (n / row_blocks, n % row_blocks);
+        let (strips, panel) = (strip / panels, strip % panels);
+        let tile = [strips / column_blocks, strips % column_blocks, panel, row_block];
+        assert_eq!(self.number(tile[0], tile[1], tile[2], tile[3]), n, "the tile of a number");
+        tile
     }
 }

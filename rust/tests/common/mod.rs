@@ -38,5 +38,6 @@ pub mod refusing;
 pub mod request;
 pub mod rng;
 pub mod seen;
+pub mod stretches;
 pub mod temp_file;
 pub mod tile_call;

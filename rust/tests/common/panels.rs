@@ -91,7 +91,7 @@ impl Model {
     /// The work slice after a call whose last tile was number n.
     pub fn work(&self, n: u64, work: &[u32]) -> Vec<u32> {
         let Cut { row, column, depth, tile_rows, tile_cols, tile_depth, .. } = self.cut;
-        let [h, c, p, r] = self.tile(n);
+        let [h, c, p, r] = self.cut.tile(n);
         let word = |entry: u128| entry as u32;
         let values = |i, j, k| self.groups.values_at_depth(OutputIndex::new(h, i, j), k);
         let of_a = |i, k| word(entry(&self.case.a, &values(i, 0, k)));
@@ -107,16 +107,6 @@ impl Model {
             }
         }
         after
-    }
-
-    /// Batch count, column block, panel and row block of a tile.
-    fn tile(&self, n: u64) -> [u64; 4] {
-        let Cut { row_blocks, panels, column_blocks, .. } = self.cut;
-        let (strip, row_block) = (n / row_blocks, n % row_blocks);
-        let (strips, panel) = (strip / panels, strip % panels);
-        let tile = [strips / column_blocks, strips % column_blocks, panel, row_block];
-        assert_eq!(self.cut.number(tile[0], tile[1], tile[2], tile[3]), n, "the tile of a number");
-        tile
     }
 
     /// What a tile call has to answer and to leave that passes every question, in a list of calls that began with the

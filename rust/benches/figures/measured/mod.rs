@@ -1,5 +1,6 @@
 //! What is measured, and the times.
 
+pub mod before;
 pub mod calls;
 pub mod cases;
 pub mod contest;
@@ -7,3 +8,4 @@ pub mod forms;
 pub mod one_tile;
 pub mod required;
 pub mod scaling;
+pub mod stretches;

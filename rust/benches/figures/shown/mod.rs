@@ -1,5 +1,6 @@
 //! How the figures are shown: tables, plots, and the document that has them.
 
+pub mod archives;
 pub mod bars;
 pub mod document;
 pub mod lines;

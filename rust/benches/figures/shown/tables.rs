@@ -99,10 +99,10 @@ pub fn required(required: &[Required]) -> String {
 }
 
 /// A line above a table whose rows all have the same turns.
-fn turns(pace: Pace) -> String {
+pub fn turns(pace: Pace) -> String {
     format!("Turns: {pace}.\n\n")
 }
 
-fn by(ratio: f64) -> String {
+pub fn by(ratio: f64) -> String {
     format!("{ratio:.2}")
 }

@@ -1,5 +1,5 @@
 -- `all_columns` meets its contract. The invariant: where a column is left, `at` is the place of column c, and D's words are those that c turns leave. A turn stores the next
--- four columns, or the next one. The measure is how many columns are left.
+-- eight columns, or four, or one. The measure is how many columns are left.
 -- Assumes nothing.
 use mathlib.Core.Path.{_≡_, refl, ap, sym, _∙_}
 use mathlib.Core.Bool.{Bool, true, false, _&&_, true≢false}
@@ -16,23 +16,23 @@ use Rattle.words.specs.Loops.{each}
 use Rattle.words.proofs.Loops.{each-next, each-add}
 use Rattle.limits.specs.Limits.{blockLimit}
 use Rattle.block.specs.Places.{placeOf}
-use Rattle.multiply.specs.Stored.{columnStored}
-use Rattle.multiply.proofs.Stores.{few-columns, short, short-before, summable, storable, next-column, column-stored}
+use Rattle.columns.specs.Stored.{columnStored}
+use Rattle.columns.proofs.Stores.{few-columns, short, short-before, summable, storable, next-column, column-stored}
 use Rattle.multiply.proofs.multiply.all_columns.Statement.{statement}
 use Rattle.multiply.proofs.multiply.all_columns.Tie as tie
 
--- four turns more
-turn-four : (body : ℕ → List ℕ → List ℕ) (c : ℕ) (d₀ : List ℕ) {d e : List ℕ} → d ≡ each c body d₀ → e ≡ each 4 (λ q. body (c + q)) d → e ≡ each (c + 4) body d₀
-turn-four body c d₀ i j = j ∙ ap (each 4 (λ q. body (c + q))) i ∙ sym (each-add c 4 body d₀)
+-- n turns more
+turn-more : (n : ℕ) (body : ℕ → List ℕ → List ℕ) (c : ℕ) (d₀ : List ℕ) {d e : List ℕ} → d ≡ each c body d₀ → e ≡ each n (λ q. body (c + q)) d → e ≡ each (c + n) body d₀
+turn-more n body c d₀ i j = j ∙ ap (each n (λ q. body (c + q))) i ∙ sym (each-add c n body d₀)
 
 and-right : (a b : Bool) → a && b ≡ true → b ≡ true
 and-right true b h = h
 and-right false b h = absurd (true≢false (sym h))
 
--- four columns are left where the test says so
-four-left : (rows count c : ℕ) → leb 5 rows && leb 4 (count - c) ≡ true → c + 4 ≤ count
-four-left rows count c h =
-    let l : 4 ≤ count - c = leb-true 4 (count - c) (and-right (leb 5 rows) (leb 4 (count - c)) h) in
+-- n columns are left where the test says so
+many-left : (n rows count c : ℕ) → 0 < n → leb 5 rows && leb n (count - c) ≡ true → c + n ≤ count
+many-left n rows count c some h =
+    let l : n ≤ count - c = leb-true n (count - c) (and-right (leb 5 rows) (leb n (count - c)) h) in
     omega arith
 
 -- the numbers of the columns are small
@@ -44,11 +44,11 @@ less : (c n count : ℕ) → c < count → 0 < n → c + n ≤ count → count -
 less c n count h k l = omega arith
 
 abbrev Inv-loop : tie.InvT-loop
-Inv-loop work d₀ rows columns t p f count at₀ c₀ d at c =
+Inv-loop work d₀ rows lengths columns t p f count at₀ c₀ d at c =
     (c ≤ t .columns) × (length d ≡ length d₀) × (c < t .columns → at ≡ placeOf (t .from) columns c) × (d ≡ each c (columnStored work p f (t .from) columns rows (t .rows)) d₀)
 
 abbrev μ-loop : tie.MeasureT-loop
-μ-loop work d₀ rows columns t p f count at₀ c₀ d at c = t .columns - c
+μ-loop work d₀ rows lengths columns t p f count at₀ c₀ d at c = t .columns - c
 
 -- where the function starts, from inside the loop
 abbrev start : tie.In-loop Inv-loop μ-loop → tie.Start Inv-loop μ-loop
@@ -61,9 +61,12 @@ turn c = omega arith
 turn-in : (c : tie.In-loop Inv-loop μ-loop) → c .before .loop .c + 1 ≤ start c .args .t .columns
 turn-in c = let h = turn c in omega arith
 
--- and where the test says so the three after it are too
-four : (c : tie.Then1 Inv-loop μ-loop) → c .before .before .before .loop .c + 4 ≤ start (c .before .before) .args .t .columns
-four c = let a = start (c .before .before) .args in four-left (a .t .rows) (a .t .columns) (c .before .before .before .loop .c) (c .if1 .taken)
+-- and where the test says so the seven after it are too, or the three
+eight : (c : tie.Then1 Inv-loop μ-loop) → c .before .before .before .loop .c + 8 ≤ start (c .before .before) .args .t .columns
+eight c = let a = start (c .before .before) .args in many-left 8 (a .t .rows) (a .t .columns) (c .before .before .before .loop .c) (lit< tt) (c .if1 .taken)
+
+four : (c : tie.Then2 Inv-loop μ-loop) → c .before .before .before .before .before .loop .c + 4 ≤ start (c .before .before .before .before) .args .t .columns
+four c = let a = start (c .before .before .before .before) .args in many-left 4 (a .t .rows) (a .t .columns) (c .before .before .before .before .before .loop .c) (lit< tt) (c .if2 .taken)
 
 -- what the stores of a column leave
 abbrev stores : tie.Start Inv-loop μ-loop → ℕ → List ℕ → List ℕ
@@ -82,66 +85,95 @@ loop-holds c = (omega arith, refl, λ h. c .wrapping-add-u64 .ensures, refl)
 sub-if1 : tie.Need-sub-if1 Inv-loop μ-loop
 sub-if1 c = let h = turn (c .before) in omega arith
 
-next-four-requires : tie.Need-next-four-requires Inv-loop μ-loop
-next-four-requires c κs =
+next-eight-requires : tie.Need-next-eight-requires Inv-loop μ-loop
+next-eight-requires c κs =
     let i = c .before .before .before in
     let l = i .before .loop in
-    (four (c .before), l .inv .2 (turn i), rw (l .inv .1) (start i .pre))
+    (eight (c .before), l .inv .2 (turn i), rw (l .inv .1) (start i .pre))
 
 add-c : tie.Need-add-c Inv-loop μ-loop
 add-c c =
     let t = c .before .before .before .before in
-    small (four t) (few-columns (start (t .before .before) .pre))
+    small (eight t) (few-columns (start (t .before .before) .pre))
 
 loop-less : tie.Need-loop-less Inv-loop μ-loop
 loop-less c =
     let t = c .before .before .before .before in
     let i = t .before .before in
-    less (i .before .loop .c) 4 (start i .args .t .columns) (turn i) (lit< tt) (four t)
+    less (i .before .loop .c) 8 (start i .args .t .columns) (turn i) (lit< tt) (eight t)
 
 loop-again : tie.Need-loop-again Inv-loop μ-loop
 loop-again c =
     let t = c .before .before .before .before in
     let s = start (t .before .before) in
     let l = t .before .before .before .loop in
-    let r = c .before .before .next-four in
-    (four t, r .kept .1 .0 ∙ l .inv .1, r .ensures .1, turn-four (stores s) (l .c) (s .args .d .now) (l .inv .3) (r .ensures .0))
+    let r = c .before .before .next-eight in
+    (eight t, r .kept .1 .0 ∙ l .inv .1, r .ensures .1, turn-more 8 (stores s) (l .c) (s .args .d .now) (l .inv .3) (r .ensures .0))
 
-mul-column : tie.Need-mul-column Inv-loop μ-loop
-mul-column c = short (start (c .before .before .before) .pre)
+sub-if2 : tie.Need-sub-if2 Inv-loop μ-loop
+sub-if2 c = let h = turn (c .before .before .before) in omega arith
 
-add-column : tie.Need-add-column Inv-loop μ-loop
-add-column c = let i = c .before .before .before in omega (arith, short-before (start i .pre) (i .before .loop .c) (turn i))
-
-column-requires : tie.Need-column-requires Inv-loop μ-loop
-column-requires c κs = let i = c .before .before .before in summable (start i .pre) (i .before .loop .c) (turn i)
-
-add-store-next : tie.Need-add-store-next Inv-loop μ-loop
-add-store-next c = let i = c .before .before .before .before .before in small (turn-in i) (few-columns (start i .pre))
-
-store-next-requires : tie.Need-store-next-requires Inv-loop μ-loop
-store-next-requires c κs =
+next-four-requires : tie.Need-next-four-requires Inv-loop μ-loop
+next-four-requires c κs =
     let i = c .before .before .before .before .before in
     let l = i .before .loop in
-    storable (start i .pre) (l .c) (turn i) (l .inv .2 (turn i)) (l .inv .1)
+    (four (c .before), l .inv .2 (turn i), rw (l .inv .1) (start i .pre))
 
 add-c-2 : tie.Need-add-c-2 Inv-loop μ-loop
-add-c-2 c = let i = c .before .before .before .before .before .before .before .before in small (turn-in i) (few-columns (start i .pre))
+add-c-2 c =
+    let t = c .before .before .before .before in
+    small (four t) (few-columns (start (t .before .before .before .before) .pre))
 
 loop-less-2 : tie.Need-loop-less-2 Inv-loop μ-loop
 loop-less-2 c =
-    let i = c .before .before .before .before .before .before .before .before in
-    less (i .before .loop .c) 1 (start i .args .t .columns) (turn i) (lit< tt) (turn-in i)
+    let t = c .before .before .before .before in
+    let i = t .before .before .before .before in
+    less (i .before .loop .c) 4 (start i .args .t .columns) (turn i) (lit< tt) (four t)
 
 loop-again-2 : tie.Need-loop-again-2 Inv-loop μ-loop
 loop-again-2 c =
+    let t = c .before .before .before .before in
+    let i = t .before .before .before .before in
+    let s = start i in
+    let l = i .before .loop in
+    let r = c .before .before .next-four in
+    (four t, r .kept .1 .0 ∙ l .inv .1, r .ensures .1, turn-more 4 (stores s) (l .c) (s .args .d .now) (l .inv .3) (r .ensures .0))
+
+mul-column : tie.Need-mul-column Inv-loop μ-loop
+mul-column c = short (start (c .before .before .before .before .before) .pre)
+
+add-column : tie.Need-add-column Inv-loop μ-loop
+add-column c = let i = c .before .before .before .before .before in omega (arith, short-before (start i .pre) (i .before .loop .c) (turn i))
+
+column-requires : tie.Need-column-requires Inv-loop μ-loop
+column-requires c κs = let i = c .before .before .before .before .before in summable (start i .pre) (i .before .loop .c) (turn i)
+
+add-store-next : tie.Need-add-store-next Inv-loop μ-loop
+add-store-next c = let i = c .before .before .before .before .before .before .before in small (turn-in i) (few-columns (start i .pre))
+
+store-next-requires : tie.Need-store-next-requires Inv-loop μ-loop
+store-next-requires c κs =
     let i = c .before .before .before .before .before .before .before .before in
+    let l = i .before .loop in
+    storable (start i .pre) (l .c) (turn i) (l .inv .2 (turn i)) (l .inv .1)
+
+add-c-3 : tie.Need-add-c-3 Inv-loop μ-loop
+add-c-3 c = let i = c .before .before .before .before .before .before .before .before .before .before .before in small (turn-in i) (few-columns (start i .pre))
+
+loop-less-3 : tie.Need-loop-less-3 Inv-loop μ-loop
+loop-less-3 c =
+    let i = c .before .before .before .before .before .before .before .before .before .before .before in
+    less (i .before .loop .c) 1 (start i .args .t .columns) (turn i) (lit< tt) (turn-in i)
+
+loop-again-3 : tie.Need-loop-again-3 Inv-loop μ-loop
+loop-again-3 c =
+    let i = c .before .before .before .before .before .before .before .before .before .before .before in
     let s = start i in
     let a = s .args in
     let l = i .before .loop in
     let r = c .before .before .store-next in
     let at = l .inv .2 (turn i) in
-    let e = r .ensures .0 ∙ column-stored (a .work .now) (a .p) (a .f) (a .t .from) (a .columns .now) (a .rows .now) (a .t .rows) (l .c) (l .d) refl at (c .before .before .before .before .column .ensures) in
+    let e = r .ensures .0 ∙ column-stored (a .work .now) (a .p) (a .f) (a .t .from) (a .columns .now) (a .rows .now) (a .t .rows) (l .c) (l .d) refl at (c .before .before .before .before .before .column .ensures) in
     (turn-in i, r .kept .0 ∙ l .inv .1, λ h. next-column (s .pre) (l .c) (l .c + 1) refl h at (r .ensures .1), each-next (stores s) (l .c) (a .d .now) (l .inv .3) e)
 
 same-length : tie.Need-same-length Inv-loop μ-loop
@@ -163,17 +195,22 @@ all-columns-spec =
     wrapping-add-u64-requires
     loop-holds
     sub-if1
-    next-four-requires
+    next-eight-requires
     add-c
     loop-less
     loop-again
+    sub-if2
+    next-four-requires
+    add-c-2
+    loop-less-2
+    loop-again-2
     mul-column
     add-column
     column-requires
     add-store-next
     store-next-requires
-    add-c-2
-    loop-less-2
-    loop-again-2
+    add-c-3
+    loop-less-3
+    loop-again-3
     same-length
     returns)

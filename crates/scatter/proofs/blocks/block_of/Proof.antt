@@ -26,6 +26,7 @@ blocked o g first count before few w of =
     record {
       used = let all : min count blockLimit ≡ count = omega arith in of .used ∙ all;
       step = record { step = rw (of .holds) (of .step) };
+      lengths = rw (of .holds) (of .lengths);
       offsets = λ k h.
           ap (λ (l : List ℕ). getD l k 0) (of .holds ∙ w) ∙ getD-front count (λ k. wordAt o 0 g (first + k)) before k h
           ∙ ap (word 64) (zero-add (offsetIn (wordOf 64) o g (first + k)));

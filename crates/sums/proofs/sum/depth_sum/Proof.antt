@@ -7,12 +7,13 @@ use native.Mathlib.Omega.{arith}
 use borrow.Author.Needs.{needs}
 use Rattle.words.specs.Words.{word}
 use Rattle.words.specs.Loops.{Within}
+use Rattle.words.specs.Stepped.{stepped}
 use Rattle.words.proofs.Sums.{sumTo-ext}
 use Rattle.contraction.specs.Operands.{Operand, A, B}
 use Rattle.groups.specs.Groups.{Label, size}
 use Rattle.offsets.specs.Offsets.{wordsIn}
 use Rattle.sums.specs.declared.walk.Walk.{Walk}
-use Rattle.sums.specs.Walk.{stepped, reached, dot, sumFrom, Walks}
+use Rattle.sums.specs.Walk.{reached, dot, sumFrom, Walks}
 use Rattle.sums.proofs.GroupRuns.{first-place}
 use Rattle.sums.proofs.sum.depth_sum.Statement.{statement}
 use Rattle.sums.proofs.sum.depth_sum.Tie as tie

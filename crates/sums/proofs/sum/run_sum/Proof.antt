@@ -10,8 +10,9 @@ use lib.ListN.{getD}
 use Rattle.words.specs.Words.{word}
 use Rattle.words.specs.Sums.{sumTo}
 use Rattle.words.specs.Loops.{Within}
-use Rattle.words.proofs.Modular.{word-sum}
-use Rattle.sums.specs.Walk.{stepped, dot}
+use Rattle.words.specs.Stepped.{stepped}
+use Rattle.words.proofs.Modular.{word-sum, step-none, step-more}
+use Rattle.sums.specs.Walk.{dot}
 use Rattle.sums.proofs.sum.run_sum.Statement.{statement}
 use Rattle.sums.proofs.sum.run_sum.Tie as tie
 
@@ -19,14 +20,7 @@ use Rattle.sums.proofs.sum.run_sum.Tie as tie
 placed : {n : ℕ} {place : ℕ → ℕ} {len i v : ℕ} → Within n place len → i ≡ place v → v < n → i < len
 placed {v = v} w e h = rw e (w .each v h)
 
--- no step from an address word
-at-first : {x : ℕ} (s : ℕ) → x < 2 ^ 64 → x ≡ stepped x s 0
-at-first s h = omega arith
-
--- a turn of the loop: one step more, and one product more
-next : (x s v : ℕ) {i r : ℕ} → i ≡ stepped x s v → r ≡ word 64 (i + s) → r ≡ stepped x s (v + 1)
-next x s v e q = omega arith
-
+-- a turn of the loop: one product more
 turn : (a b : List ℕ) (f g : ℕ → ℕ) (v : ℕ) {i j sum p r : ℕ}
     → i ≡ f v → j ≡ g v → sum ≡ word 32 (dot v f a g b) → p ≡ word 32 (getD a i 0 * getD b j 0) → r ≡ word 32 (sum + p)
     → r ≡ word 32 (dot (v + 1) f a g b)
@@ -44,7 +38,7 @@ loop-holds : tie.Need-loop-holds Inv-loop μ-loop
 unfolding dot sumTo
 loop-holds c =
     let s = c .before .before in
-    (omega arith, at-first (s .args .step-a) (s .fits .from-a .fits), at-first (s .args .step-b) (s .fits .from-b .fits), refl)
+    (omega arith, step-none (s .args .step-a) (s .fits .from-a .fits), step-none (s .args .step-b) (s .fits .from-b .fits), refl)
 
 mul-mul : tie.Need-mul-mul Inv-loop μ-loop
 mul-mul c = omega (arith, placed (c .before .before .before .before .pre .inA) (c .before .loop .inv .1) (c .loop-test .taken))
@@ -81,8 +75,8 @@ loop-again c =
     let s = c .before .before .before .before .before .before .before .before .before .before .args in
     let l = c .before .before .before .before .before .before .before .loop in (
       omega arith,
-      next (s .from-a) (s .step-a) (l .v) (l .inv .1) (c .before .wrapping-add-u64 .ensures),
-      next (s .from-b) (s .step-b) (l .v) (l .inv .2) (c .wrapping-add-u642 .ensures),
+      step-more (s .from-a) (s .step-a) (l .v) (l .inv .1) (c .before .wrapping-add-u64 .ensures),
+      step-more (s .from-b) (s .step-b) (l .v) (l .inv .2) (c .wrapping-add-u642 .ensures),
       turn (s .a .now) (s .b .now) (stepped (s .from-a) (s .step-a)) (stepped (s .from-b) (s .step-b)) (l .v)
           (l .inv .1) (l .inv .2) (l .inv .3) (c .before .before .before .mul .ensures) (c .before .before .wrapping-add-u32 .ensures),
     )

@@ -14,6 +14,7 @@ use lib.ListN.{length, getD}
 use Rattle.words.specs.Words.{word, wordOf}
 use Rattle.words.specs.Sums.{sumTo}
 use Rattle.words.specs.Loops.{Within}
+use Rattle.words.specs.Stepped.{stepped}
 use Rattle.words.proofs.Tabulate.{from-end}
 use Rattle.words.proofs.Sums.{sumTo-ext, sumTo-add}
 use Rattle.contraction.specs.Operands.{Operand, A, B}
@@ -26,7 +27,7 @@ use Rattle.offsets.proofs.OffsetWords.{Partway, labelsFrom, offsets-start, exte
 use Rattle.offsets.proofs.OffsetWords as words
 use Rattle.offsets.proofs.Runs.{offset-none}
 use Rattle.sums.specs.declared.walk.Walk.{Walk}
-use Rattle.sums.specs.Walk.{stepped, reached, dot, sumFrom, RunReadable, Walks}
+use Rattle.sums.specs.Walk.{reached, dot, sumFrom, RunReadable, Walks}
 use Rattle.sums.proofs.GroupRuns.{run-below, run-starts, step-place}
 use Rattle.sums.proofs.sum.sum_of_runs.Statement.{statement}
 use Rattle.sums.proofs.sum.sum_of_runs.Tie as tie

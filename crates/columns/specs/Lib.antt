@@ -1,0 +1,2 @@
+pub mod ColumnNeeds
+pub mod Stored

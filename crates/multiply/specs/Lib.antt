@@ -1,2 +1,0 @@
-pub mod MultiplyNeeds
-pub mod Stored
