@@ -16,7 +16,7 @@ pub struct Factors {
 }
 
 // What a panel with a sum makes of a word of D.
-fn added(f: Factors, sum: u32, old: u32) -> u32
+pub fn added(f: Factors, sum: u32, old: u32) -> u32
     ensures { λ r. ⌜ r ≡ addedTo f sum old ⌝ }
 {
     let more = words::mul(f.alpha, sum);
@@ -43,20 +43,8 @@ pub fn add_row(
     d[place] = added(f, sums[r], d[place]);
 }
 
-// The sums from place r on, added to n words of D one after the other from `at` on.
-fn add_in_row(d: &mut [u32], at: usize, n: usize, sums: &[u32; Limits::BLOCK], r: usize, f: Factors)
-    requires { ⌜ (at + n ≤ length (now d)) × (r + n ≤ blockLimit) ⌝ }
-    ensures { λ _. ⌜ now (d .exit) ≡ allAdded n f (now (sums .entry)) r (λ k. at + k) (now (d .entry)) ⌝ }
-{
-    let mut k: usize = 0;
-    while k < n {
-        d[at + k] = added(f, sums[r + k], d[at + k]);
-        k += 1;
-    }
-}
-
-// The same where each word of D is a step from the one before.
-fn add_by_step(
+// The sums from place r on, added to n words of D, each a step from the one before.
+pub fn add_by_step(
     d: &mut [u32],
     at: u64,
     step: u64,
@@ -66,7 +54,7 @@ fn add_by_step(
     f: Factors,
 )
     requires { ⌜ Within n (stepped at step) (length (now d)) × (r + n ≤ blockLimit) ⌝ }
-    ensures { λ _. ⌜ now (d .exit) ≡ allAdded n f (now (sums .entry)) r (stepped at step) (now (d .entry)) ⌝ }
+    ensures { λ _. ⌜ now (d .exit) ≡ allAdded n (addedTo f) (now (sums .entry)) r (stepped at step) (now (d .entry)) ⌝ }
 {
     let mut at = at;
     let mut k: usize = 0;
@@ -75,25 +63,5 @@ fn add_by_step(
         d[place] = added(f, sums[r + k], d[place]);
         at = std::num::wrapping_add_u64(at, step);
         k += 1;
-    }
-}
-
-// The sums of a stretch; words in a row need no step.
-pub fn add_stretch(
-    d: &mut [u32],
-    at: u64,
-    step: u64,
-    n: usize,
-    sums: &[u32; Limits::BLOCK],
-    r: usize,
-    f: Factors,
-)
-    requires { ⌜ (1 ≤ n) × Within n (stepped at step) (length (now d)) × (r + n ≤ blockLimit) ⌝ }
-    ensures { λ _. ⌜ now (d .exit) ≡ allAdded n f (now (sums .entry)) r (stepped at step) (now (d .entry)) ⌝ }
-{
-    if step == 1 {
-        add_in_row(d, at as usize, n, sums, r, f);
-    } else {
-        add_by_step(d, at, step, n, sums, r, f);
     }
 }

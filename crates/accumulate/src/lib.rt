@@ -1,2 +1,2 @@
-// Sums added to D's words: of one row, and of the rows of a stretch.
+// Sums added to D's words: of one row, and of rows whose words are a step apart.
 pub mod accumulate;

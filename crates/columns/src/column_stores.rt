@@ -1,10 +1,10 @@
 ghost use mathlib.Core.Path.{_≡_};
 ghost use Prim.Native.Nat.{_+_, _<_, _≤_};
-ghost use lib.ListN.{length, getD};
-ghost use Rattle.words.specs.Loops.{each, put, Within};
+ghost use lib.ListN.{length};
+ghost use Rattle.words.specs.Loops.{each, Within};
 ghost use Rattle.limits.specs.Limits.{blockLimit};
 ghost use Rattle.block.specs.Places.{placeOf, nextPlace, asStep, Measured};
-ghost use Rattle.accumulate.specs.Added.{addedTo};
+ghost use Rattle.accumulate.specs.Added.{rowsAdded};
 ghost use Rattle.columns.specs.Stored.{columnStored};
 ghost use Rattle.columns.specs.ColumnNeeds.{Multipliable};
 use accumulate::accumulate::Factors;
@@ -13,6 +13,7 @@ use block::place::next_place;
 use four_columns::columns::four_columns;
 use limits::limits::Limits;
 use store::store::store_column;
+use store::store::store_few;
 
 // The sizes of a packed tile, and how many of its lanes are filled.
 pub struct Packing {
@@ -44,11 +45,36 @@ pub fn store_next(
 ) -> u64
     requires { ⌜ (t .rows ≤ blockLimit) × Measured (t .rows) (now rows) (now lengths)
         × Within (t .rows) (placeOf at (now rows)) (length (now d)) ⌝ }
-    ensures { λ r. ⌜ (now (d .exit) ≡ each (t .rows) (λ i. put (addedTo f (getD (now (sums .entry)) i 0)) (placeOf at (now (rows .entry)) i)) (now (d .entry)))
+    ensures { λ r. ⌜ (now (d .exit) ≡ rowsAdded (t .rows) f (now (sums .entry)) at (now (rows .entry)) (now (d .entry)))
         × (r ≡ nextPlace at (t .from) (now (columns .entry)) (asStep (t .across)) next) ⌝ }
 {
     let across = t.across;
     store_column(d, at, rows, lengths, t.rows, sums, f);
+    next_place(at, t.from, columns, across, next)
+}
+
+// The same. A call is not worth it for up to four rows.
+pub fn store_one(
+    d: &mut [u32],
+    at: u64,
+    rows: &[u64; Limits::BLOCK],
+    lengths: &[u8; Limits::BLOCK],
+    columns: &[u64; Limits::BLOCK],
+    t: Lines,
+    next: usize,
+    sums: &[u32; Limits::BLOCK],
+    f: Factors,
+) -> u64
+    requires { ⌜ (t .rows ≤ blockLimit) × Measured (t .rows) (now rows) (now lengths)
+        × Within (t .rows) (placeOf at (now rows)) (length (now d)) ⌝ }
+    ensures { λ r. ⌜ (now (d .exit) ≡ rowsAdded (t .rows) f (now (sums .entry)) at (now (rows .entry)) (now (d .entry)))
+        × (r ≡ nextPlace at (t .from) (now (columns .entry)) (asStep (t .across)) next) ⌝ }
+{
+    if t.rows > 4 {
+        return store_next(d, at, rows, lengths, columns, t, next, sums, f);
+    }
+    let across = t.across;
+    store_few(d, at, rows, t.rows, sums, f);
     next_place(at, t.from, columns, across, next)
 }
 

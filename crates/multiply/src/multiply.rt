@@ -11,7 +11,7 @@ use columns::column_stores::Lines;
 use columns::column_stores::Packing;
 use columns::column_stores::next_eight;
 use columns::column_stores::next_four;
-use columns::column_stores::store_next;
+use columns::column_stores::store_one;
 use kernel::kernel::column;
 use limits::limits::Limits;
 
@@ -43,7 +43,7 @@ fn all_columns(
             c += 4;
         } else {
             let sums = column(work, p.rows, t.rows, p.rows * p.depth + c, p.cols, p.filled);
-            at = store_next(d, at, rows, lengths, columns, t, c + 1, &sums, f);
+            at = store_one(d, at, rows, lengths, columns, t, c + 1, &sums, f);
             c += 1;
         }
     }

@@ -68,6 +68,8 @@ pub enum Place {
     RowsOfA,
     ColumnsOfB,
     RowsOfD,
+    /// Alpha and beta are 1.
+    RowsOfDByOnes,
 }
 
 impl Place {
@@ -75,7 +77,7 @@ impl Place {
         match self {
             Self::RowsOfA => TileSizes { rows: count, cols: 1, depth: DEPTH },
             Self::ColumnsOfB => TileSizes { rows: 1, cols: count, depth: DEPTH },
-            Self::RowsOfD => TileSizes { rows: count, cols: COLUMNS, depth: 1 },
+            Self::RowsOfD | Self::RowsOfDByOnes => TileSizes { rows: count, cols: COLUMNS, depth: 1 },
         }
     }
 
@@ -94,6 +96,7 @@ impl Place {
             Self::RowsOfA => Contraction::random(packed, depth, even),
             Self::ColumnsOfB => Contraction::random(depth, packed, even),
             Self::RowsOfD => Contraction::random(even, columns, stored),
+            Self::RowsOfDByOnes => Contraction { alpha: 1, beta: 1, ..Contraction::random(even, columns, stored) },
         };
         self.check(sort, count, &contraction);
         contraction
@@ -104,7 +107,7 @@ impl Place {
         let tensor = match self {
             Self::RowsOfA => &c.a,
             Self::ColumnsOfB => &c.b,
-            Self::RowsOfD => &c.d,
+            Self::RowsOfD | Self::RowsOfDByOnes => &c.d,
         };
         let of_length = vec![sort.length(count) as usize; (count / sort.length(count)) as usize];
         let rest = (count % sort.length(count)) as usize;
@@ -119,6 +122,7 @@ impl fmt::Display for Place {
             Self::RowsOfA => "packing A's rows",
             Self::ColumnsOfB => "packing B's columns",
             Self::RowsOfD => "storing to D's rows",
+            Self::RowsOfDByOnes => "the same, both factors 1",
         })
     }
 }

@@ -28,7 +28,8 @@ struct Tried {
 
 /// Blocks in one place with as many offsets stand side by side, first the one of step 1.
 fn tried() -> Vec<Tried> {
-    let large = [Place::RowsOfA, Place::ColumnsOfB, Place::RowsOfD].map(|place| (place, 64, &SORTS[..]));
+    let large = [Place::RowsOfA, Place::ColumnsOfB, Place::RowsOfD, Place::RowsOfDByOnes];
+    let large = large.map(|place| (place, 64, &SORTS[..]));
     let small = [5, 8, 16].map(|count| (Place::RowsOfA, count, &FEW_SORTS[..]));
     let of_sorts =
         |(place, count, sorts): (_, _, &'static [Sort])| sorts.iter().map(move |&sort| Tried { place, count, sort });

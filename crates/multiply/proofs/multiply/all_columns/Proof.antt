@@ -148,11 +148,11 @@ add-column c = let i = c .before .before .before .before .before in omega (arith
 column-requires : tie.Need-column-requires Inv-loop μ-loop
 column-requires c κs = let i = c .before .before .before .before .before in summable (start i .pre) (i .before .loop .c) (turn i)
 
-add-store-next : tie.Need-add-store-next Inv-loop μ-loop
-add-store-next c = let i = c .before .before .before .before .before .before .before in small (turn-in i) (few-columns (start i .pre))
+add-store-one : tie.Need-add-store-one Inv-loop μ-loop
+add-store-one c = let i = c .before .before .before .before .before .before .before in small (turn-in i) (few-columns (start i .pre))
 
-store-next-requires : tie.Need-store-next-requires Inv-loop μ-loop
-store-next-requires c κs =
+store-one-requires : tie.Need-store-one-requires Inv-loop μ-loop
+store-one-requires c κs =
     let i = c .before .before .before .before .before .before .before .before in
     let l = i .before .loop in
     storable (start i .pre) (l .c) (turn i) (l .inv .2 (turn i)) (l .inv .1)
@@ -171,7 +171,7 @@ loop-again-3 c =
     let s = start i in
     let a = s .args in
     let l = i .before .loop in
-    let r = c .before .before .store-next in
+    let r = c .before .before .store-one in
     let at = l .inv .2 (turn i) in
     let e = r .ensures .0 ∙ column-stored (a .work .now) (a .p) (a .f) (a .t .from) (a .columns .now) (a .rows .now) (a .t .rows) (l .c) (l .d) refl at (c .before .before .before .before .before .column .ensures) in
     (turn-in i, r .kept .0 ∙ l .inv .1, λ h. next-column (s .pre) (l .c) (l .c + 1) refl h at (r .ensures .1), each-next (stores s) (l .c) (a .d .now) (l .inv .3) e)
@@ -207,8 +207,8 @@ all-columns-spec =
     mul-column
     add-column
     column-requires
-    add-store-next
-    store-next-requires
+    add-store-one
+    store-one-requires
     add-c-3
     loop-less-3
     loop-again-3

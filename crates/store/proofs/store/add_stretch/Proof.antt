@@ -8,12 +8,12 @@ use lib.ListN.{getD}
 use Rattle.words.specs.Loops.{put}
 use Rattle.words.proofs.Loops.{each-ext}
 use Rattle.words.proofs.Modular.{row-inside, row-place}
 use Rattle.accumulate.specs.Added.{addedTo}
-use Rattle.accumulate.proofs.accumulate.add_stretch.Statement.{statement}
-use Rattle.accumulate.proofs.accumulate.add_stretch.Tie as tie
+use Rattle.store.proofs.store.add_stretch.Statement.{statement}
+use Rattle.store.proofs.store.add_stretch.Tie as tie
 
-add-in-row-requires : tie.Need-add-in-row-requires
-add-in-row-requires c κs =
+add-contiguous-requires : tie.Need-add-contiguous-requires
+add-contiguous-requires c κs =
     let s = c .before .before .before in
     let one = c .before .if1 .taken in
     (row-inside {x = s .args .at} (omega (arith, s .fits .at)) (s .pre .0) (omega arith) (omega (arith, s .good .0 .1)) (rw one at (s .pre .1)), s .pre .2)
@@ -28,7 +28,7 @@ returns : tie.Need-returns
 returns c =
     let s = c .before .before .before .before .before .before in
     let one = c .before .before .before .before .if1 .taken in
-    c .before .before .add-in-row .ensures
+    c .before .before .add-contiguous .ensures
     ∙ each-ext (s .args .n)
     (λ k h E.
     ap (λ (p : ℕ). put (addedTo (s .args .f) (getD (s .args .sums .now) (s .args .r + k) 0)) p E)
@@ -45,7 +45,7 @@ pub add-stretch-spec : {M : Type 1} → statement M
 add-stretch-spec =
     tie.close
     (tie.spec
-    add-in-row-requires
+    add-contiguous-requires
     add-by-step-requires
     same-length
     returns

@@ -1,4 +1,4 @@
--- `add_in_row` meets its contract. The invariant: D's words are those that k turns leave. A turn makes one word more. The measure is how many are left.
+-- `add_by_both` meets its contract. The invariant: D's words are those that k turns leave. A turn makes one word more. The measure is how many are left.
 -- Assumes nothing.
 use native.Mathlib.Omega.{arith}
 use borrow.Author.Needs.{needs}
@@ -6,10 +6,10 @@ use mathlib.Core.Path.{_≡_, refl, ap, sym, _∙_}
 use Prim.Native.Nat.{ℕ, _+_, _-_, _<_, _≤_}
 use lib.ListN.{length, getD, length-set}
 use Rattle.words.specs.Loops.{each, put}
 use Rattle.accumulate.specs.Added.{addedTo, allAdded}
 use Rattle.words.proofs.Store.{put-next}
-use Rattle.accumulate.proofs.accumulate.add_in_row.Statement.{statement}
-use Rattle.accumulate.proofs.accumulate.add_in_row.Tie as tie
+use Rattle.contiguous.proofs.contiguous.add_by_both.Statement.{statement}
+use Rattle.contiguous.proofs.contiguous.add_by_both.Tie as tie
 
 abbrev Inv-loop : tie.InvT-loop
 Inv-loop d₀ at n sums r f k₀ d k = (k ≤ n) × (length d ≡ length d₀) × (d ≡ each k (λ j. put (addedTo f (getD sums (r + j) 0)) (at + j)) d₀)
@@ -72,8 +72,8 @@ returns c =
     let e : l .k ≡ c .before .before .before .args .n = omega arith in
     rw e at (l .inv .2)
 
-pub add-in-row-spec : {M : Type 1} → statement M
-add-in-row-spec =
+pub add-by-both-spec : {M : Type 1} → statement M
+add-by-both-spec =
     tie.close
     (tie.spec
     Inv-loop
