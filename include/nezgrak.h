@@ -221,6 +221,37 @@ uint32_t nezgrak_state_with_c(
     uint64_t batch, uint64_t row, uint64_t column,
     uint32_t *state);
 
+/* Finds by how many samples the recording X is later than the recording Y, up to a greatest lag L. Both have n samples. The score of
+ * a lag l is
+ *
+ *     the sum of x[t + l] * y[t] for t from 0 to n - L - 1,
+ *
+ * exact, as a sum of whole numbers. *lag becomes the lag from 0 to L with the greatest score, the smallest such lag on a tie, and
+ * *score becomes its score. A sample is a word read as signed, in two's complement: an array of int32_t can be passed by a cast of
+ * its pointer. X and Y are only read.
+ *
+ * Returns 0, or the number of the first question whose answer is no:
+ *
+ *     31  Are the lengths of both recordings the same, is the greatest lag at most 64, and is the length less the greatest lag
+ *        1 to 256?
+ *     32  Is every sample of both recordings from -2,048 to 2,047?
+ *
+ * *lag and *score are then unchanged. 32 is asked of the last L samples of Y too, which no score uses.
+ *
+ * The caller has to see to this, and to nothing else:
+ *
+ *   - x and y are each followed by a count, and point to that many words that can be read. They are aligned and not null, also where
+ *     the count is 0. They may share words: a recording can be compared with itself.
+ *   - lag and score each point to one value that can be read and written. They are aligned and not null, and share no word with each
+ *     other or with x or y.
+ *   - During the call no other thread writes to any of them, or reads *lag or *score.
+ */
+uint32_t nezgrak_delay(
+    const uint32_t *x, size_t x_count,
+    const uint32_t *y, size_t y_count,
+    uint64_t greatest_lag,
+    uint64_t *lag, int64_t *score);
+
 #ifdef __cplusplus
 }
 #endif

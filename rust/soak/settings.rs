@@ -1,9 +1,10 @@
-//! What the environment asks for: SEED, COUNT, and CONTRACTION or FILE to repeat one of them alone.
+//! What the environment asks for: SEED, COUNT, and CONTRACTION, RECORDINGS or FILE to repeat one of them alone.
 
 use std::{env, fmt};
 
-/// How many contractions and job files a full run has.
+/// How many contractions, pairs of recordings and job files a full run has.
 const COUNT: u64 = 1_000_000;
+const RECORDINGS: u64 = 100_000;
 pub const FILES: u64 = 100_000;
 
 const SEED: u64 = 1;
@@ -18,6 +19,7 @@ pub struct Settings {
 #[derive(Clone, Copy)]
 pub enum Item {
     Contraction(u64),
+    Recordings(u64),
     File(u64),
 }
 
@@ -25,6 +27,7 @@ impl fmt::Display for Item {
     fn fmt(&self, f: &mut fmt::Formatter<'_>) -> fmt::Result {
         match self {
             Item::Contraction(number) => f.pad(&format!("CONTRACTION={number}")),
+            Item::Recordings(number) => f.pad(&format!("RECORDINGS={number}")),
             Item::File(number) => f.pad(&format!("FILE={number}")),
         }
     }
@@ -32,7 +35,8 @@ impl fmt::Display for Item {
 
 impl Settings {
     pub fn read() -> Self {
-        let alone = number("CONTRACTION").map(Item::Contraction).or(number("FILE").map(Item::File));
+        let contraction = number("CONTRACTION").map(Item::Contraction);
+        let alone = contraction.or(number("RECORDINGS").map(Item::Recordings)).or(number("FILE").map(Item::File));
         Self { seed: number("SEED").unwrap_or(SEED), count: number("COUNT").unwrap_or(COUNT), alone }
     }
 
@@ -42,6 +46,11 @@ impl Settings {
             Some(_) => FILES,
             None => (self.count.min(COUNT) * FILES).div_ceil(COUNT),
         }
+    }
+
+    /// Pairs of recordings in proportion to the contractions.
+    pub fn recordings(&self) -> u64 {
+        (self.count * RECORDINGS).div_ceil(COUNT)
     }
 
     pub fn is_full(&self) -> bool {

@@ -4,6 +4,7 @@ use crate::common::rng::Rng;
 use crate::contractions;
 use crate::figures::Figures;
 use crate::jobs::{self, Files};
+use crate::recordings;
 use crate::settings::{Item, Settings};
 use crate::watch::Progress;
 use std::cell::Cell;
@@ -16,6 +17,9 @@ pub const THREADS: u64 = 2;
 
 /// One file in so many is handed to the program by its name, the others at standard input.
 const BY_NAME: u64 = 16;
+
+/// Tells the seeds of the recordings from those of the contractions, which have the numbers of the threads.
+const RECORDINGS: u64 = 1 << 32;
 
 thread_local! {
     /// What this thread is at.
@@ -69,7 +73,8 @@ impl Workers<'_> {
             Some(item) => own(1).map(|_| item).collect(),
             None => {
                 let files = own(self.files.mutants.len() as u64).map(Item::File);
-                own(self.settings.count).map(Item::Contraction).chain(files).collect()
+                let recordings = own(self.settings.recordings()).map(Item::Recordings);
+                own(self.settings.count).map(Item::Contraction).chain(recordings).chain(files).collect()
             }
         }
     }
@@ -79,6 +84,10 @@ impl Workers<'_> {
             Item::Contraction(number) => {
                 let of_thread = derived(self.settings.seed, number % THREADS);
                 contractions::check(&mut Rng::new(derived(of_thread, number)), figures);
+            }
+            Item::Recordings(number) => {
+                let of_recordings = derived(self.settings.seed, RECORDINGS);
+                recordings::check(&mut Rng::new(derived(of_recordings, number)), figures);
             }
             Item::File(number) => {
                 jobs::check(&self.files.mutants[number as usize], number % BY_NAME == 0, figures);

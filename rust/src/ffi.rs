@@ -108,3 +108,22 @@ call! {
         state: *mut u32,
     )
 }
+
+extern "C" {
+    /// Questions 31 and 32, then the lag with the greatest score, and that score. Answers 0; or the number of the question
+    /// that refused, and leaves both as they were. Samples are words read as signed.
+    ///
+    /// # Safety
+    ///
+    /// Each pointer is aligned and not null, and what it points to is there: one value, or as many words as the count after
+    /// it says. Nothing that is written shares a word with anything else that is passed.
+    pub(crate) fn nezgrak_delay(
+        x: *const u32,
+        x_count: usize,
+        y: *const u32,
+        y_count: usize,
+        greatest_lag: u64,
+        lag: *mut u64,
+        score: *mut i64,
+    ) -> u32;
+}

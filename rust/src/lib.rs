@@ -9,6 +9,8 @@
 //! at once, and [`tiles()`](Contraction::tiles) tile by tile, with time for other work in between. What a sum starts from
 //! is D's old word, or the entry of a third tensor that is read, C, by [`with_c()`](Contraction::with_c).
 //!
+//! [`delay()`] finds by how many samples one recording is later than another.
+//!
 //! ```
 //! use nezgrak::{Contraction, Layout, Tensor};
 //!
@@ -32,6 +34,7 @@
 
 mod contract;
 mod contraction;
+mod delay;
 mod ffi;
 mod layout;
 mod refusal;
@@ -40,6 +43,7 @@ mod state;
 mod tiles;
 
 pub use contraction::{Contraction, Tensor};
+pub use delay::{delay, Delay};
 pub use layout::Layout;
 pub use refusal::Refusal;
 pub use run_tiles::{Progress, TileSizes};

@@ -9,6 +9,7 @@ use core::fmt;
 /// [`contract()`](crate::Contraction::contract) asks 1 to 6, 30 and 7 to 9,
 /// [`run_tiles()`](crate::Contraction::run_tiles) 1 to 6, 30 and 7 to 12, and
 /// [`state()`](crate::Contraction::state) 1 to 6, 30, 7 to 10, 12 and 13.
+/// [`delay()`](crate::delay()) asks 31 and 32 of its recordings, and nothing else.
 ///
 /// ```
 /// use nezgrak::{Contraction, Layout, Tensor};
@@ -24,7 +25,7 @@ pub struct Refusal {
 }
 
 impl Refusal {
-    /// The question's number, 1 to 13 or 30.
+    /// The question's number, 1 to 13 or 30 to 32.
     #[must_use]
     pub const fn number(self) -> u32 {
         self.number
@@ -62,6 +63,11 @@ impl Refusal {
             11 => "the work slice has fewer than rows * depth + depth * cols words",
             12 => "the count of tiles done is above the total",
             13 => "a count of the output index is not below its group's size",
+            31 => {
+                "the lengths of the recordings differ, the greatest lag is above 64, \
+                 or the length less the greatest lag is not 1 to 256"
+            }
+            32 => "a sample of a recording is not from -2,048 to 2,047",
             _ => "a question of another number",
         }
     }
@@ -97,8 +103,8 @@ mod tests {
 
     #[test]
     fn each_number_has_a_text_of_its_own() {
-        let texts: HashSet<_> = (1..=14).chain([30]).map(|n| Refusal::done_or(n).unwrap_err().finding()).collect();
-        assert_eq!(texts.len(), 15);
+        let texts: HashSet<_> = (1..=14).chain(30..=32).map(|n| Refusal::done_or(n).unwrap_err().finding()).collect();
+        assert_eq!(texts.len(), 17);
         let refused = Refusal::done_or(6).unwrap_err();
         assert_eq!(refused.to_string(), "refused 6: a letter has two extents");
         assert_eq!(format!("{refused:?}"), "refused 6: a letter has two extents");

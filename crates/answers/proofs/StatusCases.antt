@@ -11,4 +11,5 @@ status-cases =
       state = refl;
       complete = refl;
       found = refl;
+      delay = refl;
     }

@@ -1,3 +1,5 @@
+pub mod DelayAnswer
+pub mod FlatDelay
 pub mod FlatPlain
 pub mod FlatState
 pub mod FlatTiles

@@ -23,7 +23,8 @@ use Rattle.meaning.specs.Meaning.{Slices, lengthsIn, shapeIn, startOf, combined
 use Rattle.meaning.proofs.OwnGroups.{c-in-d}
 use Rattle.meaning.proofs.Result.{outputs-apart, term, value-counts}
 use Rattle.plan.proofs.Reached.{out-inside, reached-out, term-inside, reached-term}
-use Rattle.sums.specs.Walk.{reached, dot, sumFrom, Readable}
+use Rattle.dots.specs.Dot.{dot}
+use Rattle.sums.specs.Walk.{reached, sumFrom, Readable}
 use Rattle.direct.specs.FilledOutput.{filled, Clear}
 
 module _ (c : Contraction) (w : Slices) (p : AllPassed (tensors c) (lengthsIn c w)) (base : Operand → ℕ)

@@ -23,6 +23,7 @@ use Rattle.jobfile.proofs.JobFileCases.{job-file-cases}
 use Rattle.letters.proofs.LetterCases.{letter-cases}
 use Rattle.flat.proofs.FlatLayoutCases.{flat-layout-cases}
 use Rattle.answers.proofs.StatusCases.{status-cases}
+use Rattle.scores.proofs.DelayCases.{delay-cases}
 use Rattle.edges.specs.Pinned.{Pinned}
 use Rattle.edges.proofs.Starred.{edges-hold}
 use Rattle.edges.proofs.LabelKinds.{label-kind-cases}
@@ -55,6 +56,7 @@ pinned =
       job-file = job-file-cases;
       letters = letter-cases;
       printed = job-cases;
+      delays = delay-cases;
       layout-words = flat-layout-cases;
       numbers = status-cases;
     }

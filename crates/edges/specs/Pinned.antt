@@ -25,6 +25,7 @@ use Rattle.jobfile.specs.JobFileCases.{JobFileCases}
 use Rattle.letters.specs.LetterCases.{LetterCases}
 use Rattle.flat.specs.FlatLayoutCases.{FlatLayoutCases}
 use Rattle.answers.specs.StatusCases.{StatusCases}
+use Rattle.scores.specs.DelayCases.{DelayCases}
 use Rattle.edges.specs.Edges.{edges, Holds}
 use Rattle.edges.specs.LabelKinds.{LabelKindCases}
 use Rattle.edges.specs.JobCases.{JobCases}
@@ -58,6 +59,8 @@ pub record Pinned : Type 0 where
   pub job-file : JobFileCases
   pub letters : LetterCases
   pub printed : JobCases
+  -- two recordings
+  pub delays : DelayCases
   -- the calls for C and Rust: a layout's words, and the numbers that are returned and set
   pub layout-words : FlatLayoutCases
   pub numbers : StatusCases

@@ -18,4 +18,8 @@ limit-cases =
       offsets = refl;
       job-words = refl;
       job-work = refl;
+      lags = refl;
+      used = refl;
+      lowest = refl;
+      highest = refl;
     }

@@ -1,8 +1,9 @@
 -- The limits in the figures of the rules.
 -- Assumes nothing.
 use mathlib.Core.Path.{_≡_}
+use lib.IntN.{pos, negℤ}
 use Rattle.limits.specs.Limits.{rankLimit, extentLimit, strideLimit, baseLimit, sliceLimit, productLimit}
-use Rattle.limits.specs.Limits.{rowsLimit, colsLimit, depthLimit, blockLimit, jobLimit, workRoom}
+use Rattle.limits.specs.Limits.{rowsLimit, colsLimit, depthLimit, blockLimit, jobLimit, workRoom, lagLimit, usedLimit, leastSample, greatestSample}
 
 pub record LimitCases : Type 0 where
   -- "at most 8 letters", "Extents become 0 to 65,536"
@@ -22,3 +23,8 @@ pub record LimitCases : Type 0 where
   -- "a word count at most 4,096", "the program's work slice has 16,384 words"
   pub job-words : jobLimit ≡ 4096
   pub job-work : workRoom ≡ 16384
+  -- "L is over 64", "n - L is not 1 to 256", "a sample is outside -2,048 to 2,047"
+  pub lags : lagLimit ≡ 64
+  pub used : usedLimit ≡ 256
+  pub lowest : leastSample ≡ negℤ (pos 2048)
+  pub highest : greatestSample ≡ pos 2047

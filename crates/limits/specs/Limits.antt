@@ -1,6 +1,7 @@
 -- The limits of the rules, by name. The code's are the associated constants of `Limits`; `Limits::all` is proved to hold these.
 -- Assumes nothing.
-use Prim.Native.Nat.{ℕ, _*_}
+use Prim.Native.Nat.{ℕ, _+_, _*_}
+use lib.IntN.{ℤ, pos, negsuc}
 use Rattle.limits.specs.declared.limits.Limits.{Limits}
 
 abbrev pub rankLimit : ℕ  -- letters of a tensor
@@ -51,6 +52,21 @@ fileRoom = 65901
 abbrev pub textRoom : ℕ  -- bytes for the text that it prints
 textRoom = 65536
 
+abbrev pub lagLimit : ℕ  -- the greatest lag of two recordings that may be asked for
+lagLimit = 64
+
+abbrev pub usedLimit : ℕ  -- samples of a recording that a score uses
+usedLimit = 256
+
+abbrev pub leastSample : ℤ  -- -2,048
+leastSample = negsuc 2047
+
+abbrev pub greatestSample : ℤ
+greatestSample = pos 2047
+
+abbrev pub lagRoom : ℕ  -- room in the code for the scores of all lags
+lagRoom = lagLimit + 1
+
 abbrev pub limits : Limits
 limits =
     record {
@@ -70,4 +86,9 @@ limits =
       work = workRoom;
       file = fileRoom;
       text = textRoom;
+      lag = lagLimit;
+      used = usedLimit;
+      low = leastSample;
+      high = greatestSample;
+      lags = lagRoom;
     }

@@ -19,6 +19,11 @@ pub struct Limits {
     pub work: usize,
     pub file: usize,
     pub text: usize,
+    pub lag: u64,
+    pub used: usize,
+    pub low: i32,
+    pub high: i32,
+    pub lags: usize,
 }
 
 impl Limits {
@@ -53,6 +58,16 @@ impl Limits {
     pub const FILE: usize = 65901;
     // The bytes for the text that it prints.
     pub const TEXT: usize = 65536;
+    // The greatest lag of two recordings that may be asked for.
+    pub const LAG: u64 = 64;
+    // The samples of a recording that a score uses.
+    pub const USED: usize = 256;
+    // The least and the greatest sample.
+    pub const LOW: i32 = -2048;
+
+    pub const HIGH: i32 = 2047;
+    // The scores of all lags.
+    pub const LAGS: usize = 65;
 
     // The constants are those that the definitions name.
     pub fn all() -> Limits
@@ -75,6 +90,11 @@ impl Limits {
             work: Limits::WORK,
             file: Limits::FILE,
             text: Limits::TEXT,
+            lag: Limits::LAG,
+            used: Limits::USED,
+            low: Limits::LOW,
+            high: Limits::HIGH,
+            lags: Limits::LAGS,
         }
     }
 }

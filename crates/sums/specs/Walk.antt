@@ -8,6 +8,7 @@ use Rattle.words.specs.Sums.{sumTo}
 use Rattle.words.specs.Words.{word, wordOf}
 use Rattle.words.specs.Loops.{Within}
 use Rattle.words.specs.Stepped.{stepped}
+use Rattle.dots.specs.Dot.{dot}
 use Rattle.limits.specs.Limits.{labelsLimit, productLimit}
 use Rattle.contraction.specs.Operands.{Operand, A, B}
 use Rattle.groups.specs.Groups.{Label, size}
@@ -30,20 +31,11 @@ steps from step v o = stepped (wordsIn from o) (wordsIn step o) v
 abbrev pub places : Offsets → List Label → ℕ → Operand → ℕ
 places base g n o = reached o (wordsIn base o) g n
 
--- Σ over the counts below n of a's word × b's word
-unfoldable pub dot : ℕ → (ℕ → ℕ) → List ℕ → (ℕ → ℕ) → List ℕ → ℕ
-dot n i a j b = sumTo n (λ k. getD a (i k) 0 * getD b (j k) 0)
-
 -- the sum over the counts of the depth group g, from an address word of each tensor
 unfoldable pub sumFrom : List Label → List ℕ → List ℕ → (Operand → ℕ) → ℕ
 sumFrom g a b at = dot (size g) (reached A (at A) g) a (reached B (at B) g) b
 
 -- ---- what the loops may assume
-
--- along a run of n places in A and in B, all that is read is inside
-pub record RunReadable (n : ℕ) (i j : ℕ → ℕ) (a b : List ℕ) : Type 0 where
-  pub inA : Within n i (length a)
-  pub inB : Within n j (length b)
 
 -- from an address word of each tensor, all that the sum over the depth group g reads is inside
 pub record Readable (g : List Label) (a b : List ℕ) (at : Operand → ℕ) : Type 0 where

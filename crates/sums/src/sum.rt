@@ -1,38 +1,12 @@
 ghost use mathlib.Core.Path.{_≡_};
 ghost use Rattle.words.specs.Words.{word};
-ghost use Rattle.words.specs.Stepped.{stepped};
 ghost use Rattle.offsets.specs.Offsets.{wordsIn};
-ghost use Rattle.sums.specs.Walk.{dot, sumFrom, over, RunReadable, Readable, Walks};
+ghost use Rattle.sums.specs.Walk.{sumFrom, over, Readable, Walks};
 use super::walk::Walk;
 use contraction::contraction::Contraction;
+use dots::dot::run_sum;
 use offsets::offsets::Offsets;
 use offsets::offsets::SumOffsets;
-
-// The sum along a run: A's word × B's word at `len` places, each a step from the one before.
-fn run_sum(
-    a: &[u32],
-    b: &[u32],
-    from_a: u64,
-    from_b: u64,
-    step_a: u64,
-    step_b: u64,
-    len: u32,
-) -> u32
-    requires { ⌜ RunReadable len (stepped «from_a» «step_a») (stepped «from_b» «step_b») (now a) (now b) ⌝ }
-    ensures { λ r. ⌜ r ≡ word 32 (dot len (stepped «from_a» «step_a») (now (a .entry)) (stepped «from_b» «step_b») (now (b .entry))) ⌝ }
-{
-    let mut i = from_a;
-    let mut j = from_b;
-    let mut sum: u32 = 0;
-    let mut v: u32 = 0;
-    while v < len {
-        sum = std::num::wrapping_add_u32(sum, words::mul(a[i as usize], b[j as usize]));
-        i = std::num::wrapping_add_u64(i, step_a);
-        j = std::num::wrapping_add_u64(j, step_b);
-        v += 1;
-    }
-    sum
-}
 
 // The sum over the counts of the depth group, from where an output count leaves A and B, run by run. The digits of a run's first count are taken here: a
 // function of its own would copy the group for each run. Once the rest is 0, the labels that are left add nothing.

@@ -3,6 +3,7 @@
 use Prim.Native.Nat.{ℕ, zero, suc, _+_, _*_}
 use mathlib.Core.Bool.{Bool, true, _&&_}
 use mathlib.Core.List.{List, [], _∷_}
+use lib.IntN.{ℤ, pos, _+ℤ_}
 
 -- the sum of f over the members of a list
 abbrev pub sumOf : {X : Type 0} → (X → ℕ) → List X → ℕ
@@ -18,6 +19,11 @@ product f (x ∷ xs) = f x * product f xs
 unfoldable pub sumTo : ℕ → (ℕ → ℕ) → ℕ
 sumTo zero f = 0
 sumTo (suc n) f = sumTo n f + f n
+
+-- the same over whole numbers
+unfoldable pub sumℤ : ℕ → (ℕ → ℤ) → ℤ
+sumℤ zero f = pos 0
+sumℤ (suc n) f = sumℤ n f +ℤ f n
 
 -- the test passes at every member
 abbrev pub every : {X : Type 0} → (X → Bool) → List X → Bool

@@ -7,6 +7,9 @@ mod clock;
 mod contenders;
 mod contraction;
 mod engines;
+#[allow(dead_code)] // Its main is not run here.
+#[path = "../../examples/delay.rs"]
+mod example;
 mod measured;
 mod paged;
 mod shapes;
@@ -14,15 +17,15 @@ mod shown;
 
 use measured::contest::{Case, Times};
 use measured::required::Required;
-use measured::{before, calls, cases, forms, one_tile, required, scaling, stretches};
-use shown::{archives, bars, document, lines, machine, tables};
+use measured::{before, calls, cases, delays, forms, one_tile, required, scaling, stretches};
+use shown::{archives, bars, document, lines, machine, scores, tables};
 use std::process::ExitCode;
 
 fn main() -> ExitCode {
     let (cases, one_tile, scaling) = (measure(cases::all()), one_tile::all(), measure(scaling::all()));
-    let (calls, forms) = (calls::all(), forms::measure());
+    let (calls, delays, forms) = (calls::all(), delays::all(), forms::measure());
     let (stretches, before) = (stretches::all(), before::all(&cases));
-    let required = required::all(&cases, &one_tile);
+    let required = required::all(&cases, &one_tile, &delays);
     let sections = [
         ("Required ratios", tables::required(&required)),
         ("Cases", tables::cases(&cases) + "\n" + &tables::layouts(&cases) + &archives::cases(&before)),
@@ -30,6 +33,7 @@ fn main() -> ExitCode {
         ("One tile", tables::one_tile(&one_tile)),
         ("Blocks by stretches", archives::blocks(&stretches)),
         ("Calls", tables::calls(&calls)),
+        ("Delay", tables::delays(&delays)),
         ("Forms of the odometer", tables::forms(&forms)),
         ("Machine", machine::machine()),
     ];
@@ -38,6 +42,7 @@ fn main() -> ExitCode {
     document::write_tables(&(text + "\n"));
     document::write_plot("speed.svg", &bars::plot(&cases));
     document::write_plot("scaling.svg", &lines::plot(&scaling));
+    document::write_plot("delay.svg", &scores::plot(&example::X, &example::Y, example::GREATEST_LAG));
     status(&required)
 }
 

@@ -4,6 +4,7 @@ pub mod document;
 mod tables;
 
 use crate::common::case::Outcome;
+use crate::common::delay::Answer;
 use crate::common::groups::Cut;
 use crate::common::request::{work_needed, Ran, Request};
 use crate::common::seen::Seen;
@@ -15,11 +16,12 @@ pub use tables::text;
 pub struct Answers(BTreeMap<u32, usize>);
 
 /// The numbers that the calls can answer, in the order of the questions; 0 where a call is accepted.
-pub const ALL: [u32; 15] = [0, 1, 2, 3, 4, 5, 6, 30, 7, 8, 9, 10, 11, 12, 13];
+pub const ALL: [u32; 17] = [0, 1, 2, 3, 4, 5, 6, 30, 7, 8, 9, 10, 11, 12, 13, 31, 32];
 /// Those that each call can answer.
 pub const PLAIN: [u32; 11] = [0, 1, 2, 3, 4, 5, 6, 30, 7, 8, 9];
 pub const TILE: [u32; 14] = [0, 1, 2, 3, 4, 5, 6, 30, 7, 8, 9, 10, 11, 12];
 pub const STATE: [u32; 14] = [0, 1, 2, 3, 4, 5, 6, 30, 7, 8, 9, 10, 12, 13];
+pub const DELAY: [u32; 3] = [0, 31, 32];
 /// The numbers by which the program can refuse a file.
 pub const FILE: [u32; 15] = [1, 3, 4, 5, 6, 30, 7, 8, 9, 10, 12, 20, 21, 22, 23];
 
@@ -47,12 +49,15 @@ pub struct Figures {
     pub plain: Answers,
     pub tile: Answers,
     pub state: Answers,
+    pub delay: Answers,
     /// What the lists of calls had.
     pub calls: Seen,
     /// What the accepted contractions had.
     pub features: Seen,
     /// How the tiles of the lists cut them.
     pub cuts: Seen,
+    /// What the recordings had.
+    pub recordings: Seen,
     /// How job files were damaged.
     pub damages: Seen,
     /// What the program answered.
@@ -67,6 +72,10 @@ impl Figures {
     pub fn note_plain(&mut self, found: &Outcome) {
         self.plain.add(found.answer, 1);
         self.calls.add("words of D compared", found.words.len());
+    }
+
+    pub fn note_delay(&mut self, found: Answer) {
+        self.delay.add(found.err().unwrap_or(0), 1);
     }
 
     /// The answer to a state question. A contraction that is refused is not cut.
@@ -110,9 +119,11 @@ impl Figures {
         self.plain.add_all(&other.plain);
         self.tile.add_all(&other.tile);
         self.state.add_all(&other.state);
+        self.delay.add_all(&other.delay);
         add_seen(&mut self.calls, &other.calls);
         add_seen(&mut self.features, &other.features);
         add_seen(&mut self.cuts, &other.cuts);
+        add_seen(&mut self.recordings, &other.recordings);
         add_seen(&mut self.damages, &other.damages);
         add_seen(&mut self.texts, &other.texts);
         self.places.extend(&other.places);
@@ -124,12 +135,13 @@ impl Figures {
         let by_number = |call: &str, answers: &Answers, numbers: &[u32]| -> Vec<String> {
             answers.missing(numbers).map(|number| format!("{call} answered by {number}")).collect()
         };
-        let seen = [&self.calls, &self.features, &self.cuts, &self.damages, &self.texts];
+        let seen = [&self.calls, &self.features, &self.cuts, &self.recordings, &self.damages, &self.texts];
         let by_name = seen.into_iter().flat_map(Seen::counts).filter(|(_, count)| *count == 0);
         let answers = [
             by_number("plain calls", &self.plain, &PLAIN),
             by_number("tile calls", &self.tile, &TILE),
             by_number("state questions", &self.state, &STATE),
+            by_number("delay calls", &self.delay, &DELAY),
         ];
         answers.into_iter().flatten().chain(by_name.map(|(name, _)| name.to_string())).collect()
     }

@@ -1,7 +1,12 @@
-//! The calls of the archive: plain calls, tile calls and state questions, by their safe forms and by their pointers.
+//! The calls of the archive: plain calls, tile calls, state questions and delays, by their safe forms and by their pointers.
 
 #[path = "../common/mod.rs"]
 mod common;
+mod delay;
+mod delay_limits;
+mod delay_picture;
+mod delay_random;
+mod delay_refusals;
 mod edges;
 mod empty_layers;
 mod empty_tiles;

@@ -30,6 +30,12 @@ impl Pattern for i32 {
     }
 }
 
+impl Pattern for i64 {
+    fn pattern(place: usize) -> Self {
+        u64::pattern(place) as i64
+    }
+}
+
 pub struct Guarded<T> {
     buffer: Vec<T>,
     margin: usize,

@@ -3,7 +3,7 @@
 //! `questions` and `direct` are the model of the plain call; `groups` and `panels` add that of the tile calls. They
 //! follow the rules word by word, by the slowest and plainest means, and share neither code nor shape with the engine:
 //! the sum knows no groups, and where tiles need counts of groups nothing is folded, packed or run tile by tile.
-//! `job_model` adds the reading of a job file and the text that answers it.
+//! `job_model` adds the reading of a job file and the text that answers it; `delay` has the model of the delay call.
 
 #![allow(dead_code)] // Each program of tests uses a part of this.
 
@@ -12,6 +12,9 @@ pub mod broken;
 pub mod call;
 pub mod case;
 pub mod cutting;
+pub mod delay;
+pub mod delay_make;
+pub mod delay_notes;
 pub mod direct;
 /// The archive's calls by their pointers and lengths, which show what the safe calls hide where a question refuses.
 #[path = "../../src/ffi.rs"]

@@ -4,6 +4,7 @@ pub mod before;
 pub mod calls;
 pub mod cases;
 pub mod contest;
+pub mod delays;
 pub mod forms;
 pub mod one_tile;
 pub mod required;

@@ -1,6 +1,7 @@
-//! The ratios that are required of the tiled engine.
+//! The ratios that are required of the tiled engine and of the delay call.
 
 use super::contest::{ratio, Case, Times};
+use super::delays::Delays;
 use super::one_tile::OneTile;
 
 pub struct Required {
@@ -16,9 +17,9 @@ impl Required {
     }
 }
 
-pub fn all(cases: &[(Case, Times)], one_tile: &[OneTile]) -> Vec<Required> {
+pub fn all(cases: &[(Case, Times)], one_tile: &[OneTile], delays: &[Delays]) -> Vec<Required> {
     let of_cases = cases.iter().flat_map(|(case, times)| of_case(case, times));
-    of_cases.chain(one_tile.iter().filter_map(of_tile)).collect()
+    of_cases.chain(one_tile.iter().filter_map(of_tile)).chain(delays.iter().filter_map(of_delay)).collect()
 }
 
 fn of_case(case: &Case, times: &Times) -> Vec<Required> {
@@ -37,4 +38,10 @@ fn of_case(case: &Case, times: &Times) -> Vec<Required> {
 fn of_tile(tile: &OneTile) -> Option<Required> {
     let least = tile.least?;
     Some(Required { what: format!("one tile: {}", tile.against), ratio: ratio(tile.loops, tile.engine), least })
+}
+
+fn of_delay(delays: &Delays) -> Option<Required> {
+    let Delays { samples, greatest_lag, least, .. } = delays;
+    let what = format!("the delay of {samples} samples, greatest lag {greatest_lag}: the fastest direct loop");
+    Some(Required { what, ratio: ratio(delays.direct(), delays.call), least: (*least)? })
 }

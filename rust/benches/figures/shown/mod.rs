@@ -5,6 +5,7 @@ pub mod bars;
 pub mod document;
 pub mod lines;
 pub mod machine;
+pub mod scores;
 pub mod svg;
 pub mod tables;
 pub mod text;

@@ -5,6 +5,7 @@ use crate::clock::Pace;
 use crate::contraction::Tensor;
 use crate::measured::calls::{self, Call};
 use crate::measured::contest::{ratio, Case, Times};
+use crate::measured::delays::{self, Delays, LOOPS};
 use crate::measured::forms::{self, Forms};
 use crate::measured::one_tile::{self, OneTile};
 use crate::measured::required::Required;
@@ -84,6 +85,18 @@ pub fn calls(measured: &[Call]) -> String {
     turns(calls::PACE) + &table(&header, measured.iter().map(row))
 }
 
+pub fn delays(measured: &[Delays]) -> String {
+    let names = LOOPS.map(|(name, ..)| name);
+    let header =
+        [&["samples", "greatest lag", "multiply-adds", "call"][..], &names, &["fastest over the words / call"]];
+    let row = |delays: &Delays| {
+        let sizes = [delays.samples as u64, delays.greatest_lag as u64, delays.multiply_adds()].map(count);
+        let times = [delays.call].into_iter().chain(delays.loops.iter().copied()).map(time);
+        sizes.into_iter().chain(times).chain([by(ratio(delays.direct(), delays.call))]).collect()
+    };
+    turns(delays::PACE) + &table(&header.concat(), measured.iter().map(row))
+}
+
 pub fn forms(measured: &Forms) -> String {
     let row =
         |(what, spent): &(&str, Duration)| vec![what.to_string(), time(*spent), by(ratio(*spent, measured.tiled))];
@@ -95,7 +108,7 @@ pub fn required(required: &[Required]) -> String {
         let found = if one.is_met() { "met" } else { "MISSED" };
         vec![one.what.clone(), format!("{:.3}", one.ratio), format!("{:.3}", one.least), found.to_string()]
     };
-    table(&["tiled engine beside", "ratio", "at least", ""], required.iter().map(row))
+    table(&["engine beside", "ratio", "at least", ""], required.iter().map(row))
 }
 
 /// A line above a table whose rows all have the same turns.

@@ -13,7 +13,8 @@ use Rattle.contraction.specs.Operands.{Operand, A, B}
 use Rattle.groups.specs.Groups.{Label, size}
 use Rattle.offsets.specs.Offsets.{wordsIn}
 use Rattle.sums.specs.declared.walk.Walk.{Walk}
-use Rattle.sums.specs.Walk.{reached, dot, sumFrom, Walks}
+use Rattle.dots.specs.Dot.{dot}
+use Rattle.sums.specs.Walk.{reached, sumFrom, Walks}
 use Rattle.sums.proofs.GroupRuns.{first-place}
 use Rattle.sums.proofs.sum.depth_sum.Statement.{statement}
 use Rattle.sums.proofs.sum.depth_sum.Tie as tie

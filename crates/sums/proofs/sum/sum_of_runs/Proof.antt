@@ -27,7 +27,8 @@ use Rattle.offsets.proofs.OffsetWords.{Partway, labelsFrom, offsets-start, exte
 use Rattle.offsets.proofs.OffsetWords as words
 use Rattle.offsets.proofs.Runs.{offset-none}
 use Rattle.sums.specs.declared.walk.Walk.{Walk}
-use Rattle.sums.specs.Walk.{reached, dot, sumFrom, RunReadable, Walks}
+use Rattle.dots.specs.Dot.{dot, RunReadable}
+use Rattle.sums.specs.Walk.{reached, sumFrom, Walks}
 use Rattle.sums.proofs.GroupRuns.{run-below, run-starts, step-place}
 use Rattle.sums.proofs.sum.sum_of_runs.Statement.{statement}
 use Rattle.sums.proofs.sum.sum_of_runs.Tie as tie

@@ -1,31 +1,24 @@
--- `run_sum` meets its contract. The loop's invariant: v is at most `len`, i and j are v steps from where A and B begin, and the sum is the word of the dot product up to v.
+-- `stepped_sum` meets its contract. The loop's invariant: v is at most `len`, i and j are v steps from where A and B begin, and the sum is the word of the dot product up to v.
 -- The measure is how many places are left.
 -- Assumes nothing.
 use mathlib.Core.Path.{_≡_, refl}
 use mathlib.Core.List.{List}
 use Prim.Native.Nat.{ℕ, _+_, _*_, _-_, _^_, _≤_, _<_}
-use native.Mathlib.Numerals.{add-one}
 use native.Mathlib.Omega.{arith}
 use lib.ListN.{getD}
 use Rattle.words.specs.Words.{word}
 use Rattle.words.specs.Sums.{sumTo}
 use Rattle.words.specs.Loops.{Within}
 use Rattle.words.specs.Stepped.{stepped}
-use Rattle.words.proofs.Modular.{word-sum, step-none, step-more}
-use Rattle.sums.specs.Walk.{dot}
-use Rattle.sums.proofs.sum.run_sum.Statement.{statement}
-use Rattle.sums.proofs.sum.run_sum.Tie as tie
+use Rattle.words.proofs.Modular.{step-none, step-more}
+use Rattle.dots.specs.Dot.{dot}
+use Rattle.dots.proofs.Products.{product-more}
+use Rattle.dots.proofs.dot.stepped_sum.Statement.{statement}
+use Rattle.dots.proofs.dot.stepped_sum.Tie as tie
 
 -- an address word that is the place of a count
 placed : {n : ℕ} {place : ℕ → ℕ} {len i v : ℕ} → Within n place len → i ≡ place v → v < n → i < len
 placed {v = v} w e h = rw e (w .each v h)
-
--- a turn of the loop: one product more
-turn : (a b : List ℕ) (f g : ℕ → ℕ) (v : ℕ) {i j sum p r : ℕ}
-    → i ≡ f v → j ≡ g v → sum ≡ word 32 (dot v f a g b) → p ≡ word 32 (getD a i 0 * getD b j 0) → r ≡ word 32 (sum + p)
-    → r ≡ word 32 (dot (v + 1) f a g b)
-unfolding dot
-turn a b f g v ei ej es ep er = rw (er, es, ep, ei, ej, add-one) (word-sum 32 v (λ k. getD a (f k) 0 * getD b (g k) 0))
 
 abbrev Inv-loop : tie.InvT-loop
 Inv-loop a b from-a from-b step-a step-b len i₀ j₀ sum₀ v₀ i j sum v =
@@ -77,7 +70,7 @@ loop-again c =
       omega arith,
       step-more (s .from-a) (s .step-a) (l .v) (l .inv .1) (c .before .wrapping-add-u64 .ensures),
       step-more (s .from-b) (s .step-b) (l .v) (l .inv .2) (c .wrapping-add-u642 .ensures),
-      turn (s .a .now) (s .b .now) (stepped (s .from-a) (s .step-a)) (stepped (s .from-b) (s .step-b)) (l .v)
+      product-more (s .a .now) (s .b .now) (stepped (s .from-a) (s .step-a)) (stepped (s .from-b) (s .step-b)) (l .v)
           (l .inv .1) (l .inv .2) (l .inv .3) (c .before .before .before .mul .ensures) (c .before .before .wrapping-add-u32 .ensures),
     )
 
@@ -87,8 +80,8 @@ returns c =
     let z : l .v ≡ c .before .before .before .before .args .len = omega arith in
     rw z at (l .inv .3)
 
-pub run-sum-spec : {M : Type 1} → statement M
-run-sum-spec =
+pub stepped-sum-spec : {M : Type 1} → statement M
+stepped-sum-spec =
     tie.close
     (tie.spec
     Inv-loop

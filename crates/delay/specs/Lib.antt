@@ -1,0 +1,2 @@
+pub mod ExactScores
+pub mod Scoring

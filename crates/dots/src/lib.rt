@@ -1,0 +1,2 @@
+// Sums of A × B along a run of places.
+pub mod dot;

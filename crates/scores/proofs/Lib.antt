@@ -1,0 +1,4 @@
+pub mod BestLag
+pub mod DelayAnswered
+pub mod DelayCases
+pub mod DelaySound
