@@ -27,6 +27,7 @@ CALLS = [
 STATEMENTS = [
     "crates/questions/specs/QuestionsWithoutC.antt",
     "crates/meaning/specs/Demand2.antt",
+    "crates/addresses/specs/RunningAddresses.antt",
     "crates/block/specs/Stretches.antt",
     "crates/plain/specs/PlainDemand.antt",
     "crates/plain/specs/PlainWithoutC.antt",

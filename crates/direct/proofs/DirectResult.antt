@@ -25,7 +25,7 @@ use Rattle.meaning.proofs.Result.{outputs-apart, term, value-counts}
 use Rattle.plan.proofs.Reached.{out-inside, reached-out, term-inside, reached-term}
 use Rattle.dots.specs.Dot.{dot}
 use Rattle.sums.specs.Walk.{reached, sumFrom, Readable}
-use Rattle.direct.specs.FilledOutput.{filled, Clear}
+use Rattle.output_run.specs.FilledOutput.{filled, Clear}
 
 module _ (c : Contraction) (w : Slices) (p : AllPassed (tensors c) (lengthsIn c w)) (base : Operand → ℕ)
     (bases : (o : Operand) → base o ≡ tensors c o .base) where

@@ -9,6 +9,7 @@ use Rattle.tensor_answers.proofs.OwnQuestionCases.{own-question-cases}
 use Rattle.questions.proofs.QuestionCases.{question-cases}
 use Rattle.groups.proofs.GroupCases.{group-cases}
 use Rattle.offsets.proofs.OffsetCases.{offset-cases}
+use Rattle.odometer.proofs.CarriedCases.{carried-cases}
 use Rattle.folding.proofs.FoldCases.{fold-cases}
 use Rattle.block.proofs.BlockCases.{block-cases}
 use Rattle.block.proofs.StretchCases.{stretch-cases}
@@ -43,6 +44,7 @@ pinned =
       letter-order = order-cases;
       groups = group-cases;
       counts = offset-cases;
+      addresses = carried-cases;
       folding = fold-cases;
       label-kinds = label-kind-cases;
       tile-numbers = tile-cases;

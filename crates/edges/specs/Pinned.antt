@@ -11,6 +11,7 @@ use Rattle.tensor_answers.specs.OwnQuestionCases.{OwnQuestionCases}
 use Rattle.questions.specs.QuestionCases.{QuestionCases}
 use Rattle.groups.specs.GroupCases.{GroupCases}
 use Rattle.offsets.specs.OffsetCases.{OffsetCases}
+use Rattle.odometer.specs.CarriedCases.{CarriedCases}
 use Rattle.folding.specs.FoldCases.{FoldCases}
 use Rattle.block.specs.BlockCases.{BlockCases}
 use Rattle.block.specs.StretchCases.{StretchCases}
@@ -44,6 +45,7 @@ pub record Pinned : Type 0 where
   pub letter-order : OrderCases
   pub groups : GroupCases
   pub counts : OffsetCases
+  pub addresses : CarriedCases
   pub folding : FoldCases
   pub label-kinds : LabelKindCases
   -- tiles

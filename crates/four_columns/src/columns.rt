@@ -2,10 +2,12 @@ ghost use mathlib.Core.Path.{_≡_};
 ghost use Prim.Native.Nat.{_+_, _*_, _<_, _≤_};
 ghost use lib.ListN.{length};
 ghost use Rattle.limits.specs.Limits.{blockLimit};
-ghost use Rattle.kernel.specs.Kernel.{laneAdded, columnSum};
+ghost use Rattle.lanes.specs.LaneProducts.{productsAdded, scaled};
+ghost use Rattle.kernel.specs.Kernel.{columnSum};
+ghost use Rattle.lanes.specs.LaneProducts.{productsAdded, scaled};
 ghost use Rattle.kernel.specs.KernelNeeds.{Summable};
 ghost use Rattle.four_columns.specs.FourSums.{FourSums};
-use kernel::kernel::add_at;
+use lanes::lanes::add_at;
 use limits::limits::Limits;
 
 // The same for four sums at once, which share what is read of the lane.
@@ -23,10 +25,10 @@ fn add_lane_to_four(
     b3: u32,
 )
     requires { ⌜ (count ≤ blockLimit) × (from + count ≤ length (now work)) ⌝ }
-    ensures { λ _. ⌜ (now (s0 .exit) ≡ laneAdded (now (work .entry)) from count b0 (now (s0 .entry)))
-        × (now (s1 .exit) ≡ laneAdded (now (work .entry)) from count b1 (now (s1 .entry)))
-        × (now (s2 .exit) ≡ laneAdded (now (work .entry)) from count b2 (now (s2 .entry)))
-        × (now (s3 .exit) ≡ laneAdded (now (work .entry)) from count b3 (now (s3 .entry))) ⌝ }
+    ensures { λ _. ⌜ (now (s0 .exit) ≡ productsAdded count (scaled (now (work .entry)) from b0) (now (s0 .entry)))
+        × (now (s1 .exit) ≡ productsAdded count (scaled (now (work .entry)) from b1) (now (s1 .entry)))
+        × (now (s2 .exit) ≡ productsAdded count (scaled (now (work .entry)) from b2) (now (s2 .entry)))
+        × (now (s3 .exit) ≡ productsAdded count (scaled (now (work .entry)) from b3) (now (s3 .entry))) ⌝ }
 {
     let mut r: usize = 0;
     while r < count {

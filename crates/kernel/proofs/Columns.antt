@@ -11,7 +11,8 @@ use Rattle.words.specs.Sums.{sumTo}
 use Rattle.words.proofs.Modular.{word-add-left}
 use Rattle.words.proofs.Store.{length-puts, puts-at}
 use Rattle.limits.specs.Limits.{blockLimit}
-use Rattle.kernel.specs.Kernel.{laneAdded, columnSum, ColumnSums}
+use Rattle.lanes.specs.LaneProducts.{productsAdded, scaled}
+use Rattle.kernel.specs.Kernel.{columnSum, ColumnSums}
 
 -- after d depth counts
 pub record Summed (work : List ℕ) (rows count from cols d : ℕ) (sums : List ℕ) : Type 0 where
@@ -25,7 +26,7 @@ module _ (work : List ℕ) (rows count from cols : ℕ) (few : count ≤ blockLi
 
   -- a lane times the column's next word: to reduce the sum so far first changes nothing
   pub summed-turn : (d : ℕ) {by : ℕ} {sums next : List ℕ} → Summed work rows count from cols d sums → by ≡ getD work (from + cols * d) 0
-      → next ≡ laneAdded work (rows * d) count by sums → Summed work rows count from cols (d + 1) next
+      → next ≡ productsAdded count (scaled work (rows * d) by) sums → Summed work rows count from cols (d + 1) next
   unfolding columnSum sumTo
   summed-turn d {by} {sums} s q e =
       let fits : count ≤ length sums = omega (arith, s .len) in
@@ -39,4 +40,4 @@ module _ (work : List ℕ) (rows count from cols : ℕ) (few : count ≤ blockLi
       }
     where
       added : ℕ → ℕ → ℕ
-      added r w = word 32 (w + getD work (rows * d + r) 0 * by)
+      added r w = word 32 (w + scaled work (rows * d) by r)

@@ -6,11 +6,6 @@ use mathlib.Core.List.{List}
 use lib.ListN.{getD}
 use Rattle.words.specs.Sums.{sumTo}
 use Rattle.words.specs.Words.{word}
-use Rattle.words.specs.Loops.{each, put}
-
--- sums with a lane of packed A, `count` words from `from` on, times one word added
-abbrev pub laneAdded : List ℕ → ℕ → ℕ → ℕ → List ℕ → List ℕ
-laneAdded work from count by = each count (λ r. put (λ w. word 32 (w + getD work (from + r) 0 * by)) r)
 
 -- Σ over depth of packed A's word at place r of the lane × packed B's word, which stand `cols` apart from `from` on
 unfoldable pub columnSum : List ℕ → ℕ → ℕ → ℕ → ℕ → ℕ → ℕ

@@ -1,33 +1,13 @@
 ghost use mathlib.Core.Path.{_≡_};
 ghost use Prim.Native.Nat.{_+_, _*_, _<_, _≤_};
-ghost use lib.ListN.{length, getD, set};
+ghost use lib.ListN.{length};
 ghost use Rattle.words.specs.Words.{word};
 ghost use Rattle.words.specs.Loops.{Within};
 ghost use Rattle.limits.specs.Limits.{blockLimit};
-ghost use Rattle.kernel.specs.Kernel.{laneAdded, columnSum, ColumnSums};
+ghost use Rattle.kernel.specs.Kernel.{columnSum, ColumnSums};
 ghost use Rattle.kernel.specs.KernelNeeds.{Summable};
+use lanes::lanes::add_scaled;
 use limits::limits::Limits;
-
-// A product of two words added to one of the sums.
-pub fn add_at(sums: &mut [u32; Limits::BLOCK], r: usize, a: u32, by: u32)
-    requires { ⌜ r < blockLimit ⌝ }
-    ensures { λ _. ⌜ now (sums .exit) ≡ set (now (sums .entry)) r (word 32 (getD (now (sums .entry)) r 0 + word 32 (a * by))) ⌝ }
-{
-    sums[r] = std::num::wrapping_add_u32(sums[r], words::mul(a, by));
-}
-
-// A lane of packed A times one word, added to the sums.
-fn add_lane(sums: &mut [u32; Limits::BLOCK], work: &[u32], from: usize, count: usize, by: u32)
-    requires { ⌜ (count ≤ blockLimit) × (from + count ≤ length (now work)) ⌝ }
-    ensures { λ _. ⌜ now (sums .exit) ≡ laneAdded (now (work .entry)) from count by (now (sums .entry)) ⌝ }
-{
-    let mut r: usize = 0;
-    while r < count {
-        let a = work[from + r];
-        add_at(sums, r, a, by);
-        r += 1;
-    }
-}
 
 // The sums of a column side by side: each lane of packed A times one word of packed B.
 fn lane_by_lane(
@@ -45,7 +25,7 @@ fn lane_by_lane(
     let mut d: usize = 0;
     while d < depth {
         let by = work[from + cols * d];
-        add_lane(&mut sums, work, rows * d, count, by);
+        add_scaled(&mut sums, work, rows * d, count, by);
         d += 1;
     }
     sums

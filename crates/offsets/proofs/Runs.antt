@@ -3,8 +3,9 @@
 use mathlib.Core.Path.{_≡_, refl, ap, sym, _∙_}
 use mathlib.Core.List.{List, [], _∷_}
 use Prim.Native.Nat.{ℕ, _+_, _*_, _/_, _%_, _<_}
-use native.Mathlib.Nat.{div-add-mod, mul-mod-right, mul-div-right, mul-zero, zero-add, zero-mod, zero-div}
+use native.Mathlib.Nat.{div-add-mod, mul-mod-right, mul-div-right, mul-zero, zero-mul, zero-add, zero-mod, zero-div}
 use native.Mathlib.Omega.{arith}
+use lib.ListN.{drop}
 use Rattle.groups.specs.Groups.{Label, size}
 use Rattle.offsets.specs.Counts.{offset}
 use Rattle.offsets.specs.FirstLabel.{firstLabel}
@@ -34,7 +35,7 @@ offset-first f g e v z q h =
 
 -- the next count of a run: its lowest digit is one more, and its offset grows by the first label's weight
 module _ (e n : ℕ) (h : n % e + 1 < e) where
-  next-count : n + 1 ≡ e * (n / e) + (n % e + 1)
+  pub next-count : n + 1 ≡ e * (n / e) + (n % e + 1)
   next-count = omega (arith, div-add-mod n e)
 
   pub next-lowest : (n + 1) % e ≡ n % e + 1
@@ -45,3 +46,13 @@ module _ (e n : ℕ) (h : n % e + 1 < e) where
       let here = ap (offset f g) (sym (div-add-mod n e)) ∙ offset-run f g e (n / e) (n % e) z q (omega arith) in
       let there = ap (offset f g) next-count ∙ offset-run f g e (n / e) (n % e + 1) z q h in
       omega (arith, here, there)
+
+-- the first count of run m has the offset that the labels behind the first one have at count m
+pub offset-behind : (f : Label → ℕ) (g : List Label) (e m : ℕ) → 0 < e → e ≡ firstLabel g .extent → offset f g (e * m) ≡ offset f (drop 1 g) m
+offset-behind f [] e m p q = refl
+offset-behind f (l ∷ g) e m p q = rw (← q, mul-mod-right e m, mul-div-right m p, zero-mul, zero-add)
+
+-- the counts of a group: those of its first label for each of the labels behind it
+pub size-behind : (g : List Label) → size g ≡ firstLabel g .extent * size (drop 1 g)
+size-behind [] = refl
+size-behind (l ∷ g) = refl

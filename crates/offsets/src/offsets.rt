@@ -6,7 +6,7 @@ ghost use Rattle.contraction.specs.TensorPlaces.{tensorCount, operandAt};
 ghost use Rattle.groups.specs.Groups.{size};
 ghost use Rattle.groups.specs.Held.{asLabel, labelsIn};
 ghost use Rattle.offsets.specs.Counts.{offsetIn};
-ghost use Rattle.offsets.specs.Offsets.{wordsIn, Words, MovedAlong};
+ghost use Rattle.offsets.specs.Offsets.{wordsIn, Words};
 use contraction::contraction::Contraction;
 use groups::groups::Dim;
 use groups::groups::Group;
@@ -75,41 +75,5 @@ impl Offsets {
             o += 1;
         }
         Offsets { words }
-    }
-
-    // The offsets of a count of a group, the first label running fastest.
-    pub fn of(g: Group, n: u32) -> Offsets
-        requires { ⌜ (g .count ≤ labelsLimit) × (n < size (labelsIn g)) ⌝ }
-        ensures { λ r. ⌜ Words r (λ o. offsetIn (wordOf 64) o (labelsIn g) n) ⌝ }
-    {
-        let count = g.count;
-        let mut at = Offsets::none();
-        let mut rest = n;
-        let mut i: usize = 0;
-        while i < count {
-            let l = g.dims[i];
-            let extent = l.extent;
-            at = at.plus(Offsets::along(l, rest % extent));
-            rest = rest / extent;
-            i += 1;
-        }
-        at
-    }
-}
-
-// The words of A and of B, the two tensors that a sum reads.
-pub struct SumOffsets {
-    pub a: u64,
-    pub b: u64,
-}
-
-impl SumOffsets {
-    // Moved by a value of a label.
-    pub fn along(self, l: Dim, value: u32) -> SumOffsets
-        ensures { λ r. ⌜ MovedAlong self (asLabel l) value r ⌝ }
-    {
-        let a = std::num::wrapping_add_u64(self.a, moved(value, l.strides[Contraction::A]));
-        let b = std::num::wrapping_add_u64(self.b, moved(value, l.strides[Contraction::B]));
-        SumOffsets { a, b }
     }
 }

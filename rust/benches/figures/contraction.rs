@@ -1,6 +1,7 @@
 //! A contraction with its words, and the engine's calls of it.
 
 use nezgrak::{Layout, TileSizes};
+use std::collections::BTreeMap;
 use std::hint::black_box;
 
 /// The tile that every case is run with: rows, columns, depth.
@@ -50,6 +51,13 @@ impl Contraction {
         let tensor = |axes: Axes<'_>, seed| Tensor::random(axes.0, axes.1, axes.2, axes.3, seed);
         let (alpha, beta) = (0x9e37_79b9, 0x85eb_ca6b);
         black_box(Self { a: tensor(a, 1), b: tensor(b, 2), d: tensor(d, 3), alpha, beta })
+    }
+
+    /// The product of the extents of all labels.
+    pub fn terms(&self) -> u64 {
+        let axes = |tensor: &Tensor| tensor.letters.chars().zip(tensor.extents.clone()).collect::<Vec<_>>();
+        let labels: BTreeMap<char, u32> = [&self.a, &self.b, &self.d].into_iter().flat_map(axes).collect();
+        labels.values().map(|&extent| u64::from(extent)).product()
     }
 
     /// What the engine takes.

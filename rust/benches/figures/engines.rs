@@ -23,6 +23,7 @@ type Answer = (u32, u64, u32);
 #[derive(Clone, Copy)]
 pub struct Engine {
     contract: fn(&Lent<'_>, &mut [u32]) -> u32,
+    contract_with_c: fn(&Lent<'_>, &[u32], &mut [u32]) -> u32,
     run_tiles: fn(&Lent<'_>, &mut [u32], TileSizes, &mut [u32], u64) -> Answer,
 }
 
@@ -30,6 +31,11 @@ impl Engine {
     /// The plain engine.
     pub fn contract(&self, lent: &Lent<'_>, d: &mut [u32]) {
         assert_eq!((self.contract)(lent, d), 0, "an accepted contraction");
+    }
+
+    /// The plain engine with a tensor C that has D's layout.
+    pub fn contract_with_c(&self, lent: &Lent<'_>, c: &[u32], d: &mut [u32]) {
+        assert_eq!((self.contract_with_c)(lent, c, d), 0, "an accepted contraction");
     }
 
     /// The tiled engine, all tiles in one call.
@@ -49,11 +55,19 @@ type Words = [u32; 28];
 
 /// The engine of the archive whose calls have these names.
 macro_rules! engine {
-    ($contract:ident, $run_tiles:ident) => {{
+    ($contract:ident, $contract_with_c:ident, $run_tiles:ident) => {{
         extern "C" {
             fn $contract(
                 a_layout: *const Words, a: *const u32, a_count: usize,
                 b_layout: *const Words, b: *const u32, b_count: usize,
+                d_layout: *const Words, d: *mut u32, d_count: usize,
+                alpha: u32, beta: u32,
+            ) -> u32;
+
+            fn $contract_with_c(
+                a_layout: *const Words, a: *const u32, a_count: usize,
+                b_layout: *const Words, b: *const u32, b_count: usize,
+                c_layout: *const Words, c: *const u32, c_count: usize,
                 d_layout: *const Words, d: *mut u32, d_count: usize,
                 alpha: u32, beta: u32,
             ) -> u32;
@@ -67,7 +81,7 @@ macro_rules! engine {
             ) -> u32;
         }
 
-        // SAFETY, of both calls: a layout has 28 words, each other pointer and length are those of one slice, and what is
+        // SAFETY, of all calls: a layout has 28 words, each other pointer and length are those of one slice, and what is
         // written is lent by `&mut` or is a variable here.
         Engine {
             contract: |lent, d| {
@@ -77,6 +91,16 @@ macro_rules! engine {
                     $contract(
                         of_a, a.as_ptr(), a.len(), of_b, b.as_ptr(), b.len(), of_d, d.as_mut_ptr(), d.len(),
                         *alpha, *beta,
+                    )
+                }
+            },
+            contract_with_c: |lent, c, d| {
+                let Contraction { a, b, alpha, beta, .. } = lent.contraction;
+                let ([of_a, of_b, of_d], a, b) = (lent.layouts.each_ref().map(Layout::as_words), &a.words, &b.words);
+                unsafe {
+                    $contract_with_c(
+                        of_a, a.as_ptr(), a.len(), of_b, b.as_ptr(), b.len(), of_d, c.as_ptr(), c.len(),
+                        of_d, d.as_mut_ptr(), d.len(), *alpha, *beta,
                     )
                 }
             },
@@ -98,13 +122,13 @@ macro_rules! engine {
 }
 
 pub fn now() -> Engine {
-    engine!(nezgrak_contract, nezgrak_run_tiles)
+    engine!(nezgrak_contract, nezgrak_contract_with_c, nezgrak_run_tiles)
 }
 
 /// The archive before, whose calls the build script gave other names.
 #[cfg(nezgrak_before)]
 pub fn before() -> Option<Engine> {
-    Some(engine!(before_nezgrak_contract, before_nezgrak_run_tiles))
+    Some(engine!(before_nezgrak_contract, before_nezgrak_contract_with_c, before_nezgrak_run_tiles))
 }
 
 #[cfg(not(nezgrak_before))]

@@ -17,7 +17,7 @@ mod shown;
 
 use measured::contest::{Case, Times};
 use measured::required::Required;
-use measured::{before, calls, cases, delays, forms, one_tile, required, scaling, stretches};
+use measured::{before, calls, cases, delays, forms, one_tile, required, scaling, stretches, walks};
 use shown::{archives, bars, document, lines, machine, scores, tables};
 use std::process::ExitCode;
 
@@ -32,6 +32,7 @@ fn main() -> ExitCode {
         ("Scaling", tables::scaling(&scaling)),
         ("One tile", tables::one_tile(&one_tile)),
         ("Blocks by stretches", archives::blocks(&stretches)),
+        ("Walks of the plain engine", archives::walks(&walks::all())),
         ("Calls", tables::calls(&calls)),
         ("Delay", tables::delays(&delays)),
         ("Forms of the odometer", tables::forms(&forms)),

@@ -10,3 +10,4 @@ pub mod one_tile;
 pub mod required;
 pub mod scaling;
 pub mod stretches;
+pub mod walks;

@@ -5,6 +5,7 @@ use super::text::{table, time};
 use crate::measured::before::{Both, Compared};
 use crate::measured::contest::ratio;
 use crate::measured::stretches::{self, Block};
+use crate::measured::walks::Walked;
 use std::time::Duration;
 
 /// What stands where no archive before was named.
@@ -46,4 +47,12 @@ pub fn cases(cases: &[Compared]) -> String {
         [case.name.to_string(), case.pace.to_string()].into_iter().chain(tiled).chain(plain).collect()
     };
     format!("\n{}", table(&header, cases.iter().map(row)))
+}
+
+pub fn walks(walks: &[Walked]) -> String {
+    let header = ["plain engine", "turns", "before", "now", "before / now"];
+    let row = |walk: &Walked| {
+        [walk.name.clone(), walk.pace.to_string()].into_iter().chain(cells(walk.before, walk.now)).collect()
+    };
+    table(&header, walks.iter().map(row))
 }

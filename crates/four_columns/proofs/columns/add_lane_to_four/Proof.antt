@@ -1,17 +1,17 @@
 -- `add_lane_to_four` meets its contract. The invariant: r is at most `count`, and each of the four sums is what r turns leave. The measure is how many words of the lane are left.
 -- Assumes nothing.
-use mathlib.Core.Path.{_≡_, refl, _∙_}
+use mathlib.Core.Path.{_≡_, refl}
 use Prim.Native.Nat.{_-_, _<_, _≤_}
 use native.Mathlib.Omega.{arith}
 use Rattle.words.specs.Loops.{each}
-use Rattle.kernel.specs.Kernel.{laneAdded}
-use Rattle.kernel.proofs.LaneSums.{lane-turn}
+use Rattle.lanes.specs.LaneProducts.{productsAdded, scaled}
+use Rattle.lanes.proofs.LaneTurns.{product-turn}
 use Rattle.four_columns.proofs.columns.add_lane_to_four.Statement.{statement}
 use Rattle.four_columns.proofs.columns.add_lane_to_four.Tie as tie
 
 abbrev Inv-loop : tie.InvT-loop
 Inv-loop s0₀ s1₀ s2₀ s3₀ work from count b0 b1 b2 b3 r₀ s0 s1 s2 s3 r =
-    (r ≤ count) × (s0 ≡ laneAdded work from r b0 s0₀) × (s1 ≡ laneAdded work from r b1 s1₀) × (s2 ≡ laneAdded work from r b2 s2₀) × (s3 ≡ laneAdded work from r b3 s3₀)
+    (r ≤ count) × (s0 ≡ productsAdded r (scaled work from b0) s0₀) × (s1 ≡ productsAdded r (scaled work from b1) s1₀) × (s2 ≡ productsAdded r (scaled work from b2) s2₀) × (s3 ≡ productsAdded r (scaled work from b3) s3₀)
 
 abbrev μ-loop : tie.MeasureT-loop
 μ-loop s0₀ s1₀ s2₀ s3₀ work from count b0 b1 b2 b3 r₀ s0 s1 s2 s3 r = count - r
@@ -59,10 +59,10 @@ loop-again c =
     let l = c .before .before .before .before .before .before .before .before .before .before .loop in
     let h = inside (c .before .before .before .before .before .before .before .before .before) in (
       omega arith,
-      c .before .before .before .before .before .before .add-at .ensures ∙ lane-turn (s .work .now) (s .from) (s .b0) (s .s0 .now) (l .r) (l .inv .1),
-      c .before .before .before .before .add-at2 .ensures ∙ lane-turn (s .work .now) (s .from) (s .b1) (s .s1 .now) (l .r) (l .inv .2),
-      c .before .before .add-at3 .ensures ∙ lane-turn (s .work .now) (s .from) (s .b2) (s .s2 .now) (l .r) (l .inv .3),
-      c .add-at4 .ensures ∙ lane-turn (s .work .now) (s .from) (s .b3) (s .s3 .now) (l .r) (l .inv .4),
+      product-turn (scaled (s .work .now) (s .from) (s .b0)) (s .s0 .now) (l .r) (l .inv .1) (c .before .before .before .before .before .before .add-at .ensures),
+      product-turn (scaled (s .work .now) (s .from) (s .b1)) (s .s1 .now) (l .r) (l .inv .2) (c .before .before .before .before .add-at2 .ensures),
+      product-turn (scaled (s .work .now) (s .from) (s .b2)) (s .s2 .now) (l .r) (l .inv .3) (c .before .before .add-at3 .ensures),
+      product-turn (scaled (s .work .now) (s .from) (s .b3)) (s .s3 .now) (l .r) (l .inv .4) (c .add-at4 .ensures),
     )
 
 returns : tie.Need-returns Inv-loop μ-loop

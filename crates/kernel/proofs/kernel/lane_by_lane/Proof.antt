@@ -32,13 +32,13 @@ mul-by-2 c = omega (arith, c .before .before .before .pre .right .each (c .befor
 shared-slice-read-by : tie.Need-shared-slice-read-by Inv-loop μ-loop
 shared-slice-read-by c = c .before .before .before .before .pre .right .each (c .before .before .loop .d) (omega arith)
 
-mul-add-lane : tie.Need-mul-add-lane Inv-loop μ-loop
-mul-add-lane c =
+mul-add-scaled : tie.Need-mul-add-scaled Inv-loop μ-loop
+mul-add-scaled c =
     let s = c .before .before .before .before .before in
     omega (arith, lane-inside (s .args .rows) {d = c .before .before .before .loop .d} (omega arith) (le-refl (s .args .depth)) (s .pre .left))
 
-add-lane-requires : tie.Need-add-lane-requires Inv-loop μ-loop
-add-lane-requires c κs =
+add-scaled-requires : tie.Need-add-scaled-requires Inv-loop μ-loop
+add-scaled-requires c κs =
     let s = c .before .before .before .before .before in
     (s .pre .few, omega (arith, lane-inside (s .args .rows) {d = c .before .before .before .loop .d} (omega arith) (le-refl (s .args .depth)) (s .pre .left), s .pre .fits))
 
@@ -53,7 +53,7 @@ loop-again c =
     let s = c .before .before .before .before .before .before in
     let a = s .args in
     let l = c .before .before .before .before .loop in
-    (omega arith, summed-turn (a .work .now) (a .rows) (a .count) (a .from) (a .cols) (s .pre .few) (l .d) (l .inv .1) refl (c .add-lane .ensures))
+    (omega arith, summed-turn (a .work .now) (a .rows) (a .count) (a .from) (a .cols) (s .pre .few) (l .d) (l .inv .1) refl (c .add-scaled .ensures))
 
 returns : tie.Need-returns Inv-loop μ-loop
 returns c =
@@ -72,8 +72,8 @@ lane-by-lane-spec =
     add-by
     mul-by-2
     shared-slice-read-by
-    mul-add-lane
-    add-lane-requires
+    mul-add-scaled
+    add-scaled-requires
     add-d
     loop-less
     loop-again

@@ -22,7 +22,7 @@ use Rattle.plan.specs.Plan.{OutputPlanned}
 use Rattle.plan.proofs.GroupsFoldable.{all-foldable, group-foldable, outputs-foldable, fold-foldable}
 use Rattle.sums.specs.declared.walk.Walk.{Walk}
 use Rattle.sums.specs.Walk.{places, over, Walks}
-use Rattle.direct.specs.FilledOutput.{filled, Clear}
+use Rattle.output_run.specs.FilledOutput.{filled, Clear}
 use Rattle.direct.proofs.DirectResult.{clear, filled-result}
 use Rattle.answers.specs.PlainAnswer.{plainDone, plainCallOf}
 use Rattle.plain.proofs.PlainAnswered.{call-refused, call-done}

@@ -45,13 +45,13 @@ element-copy-out-run-sum-2 c = search needs
 
 run-sum-requires : tie.Need-run-sum-requires
 run-sum-requires c κs =
-    let s = c .before .before .before .before .before .before .before .before .before in
+    let s = c .before .before .before .before .before .before .before .before .before .before in
     let in-run = inside (s .pre .0) (omega arith) in
     record { inA = in-run A _ _ (s .pre .1 .inA); inB = in-run B _ _ (s .pre .1 .inB) }
 
 returns : tie.Need-returns
 returns c =
-    let s = c .before .before .before .before .before .before .before .before .before .before in
+    let s = c .before .before .before .before .before .before .before .before .before .before .before in
     c .run-sum .ensures ∙ ap (word 32) (sums (s .pre .0) (omega arith) _ _ (wordsIn (s .args .t3)))
 
 sum-of-runs-requires : tie.Need-sum-of-runs-requires

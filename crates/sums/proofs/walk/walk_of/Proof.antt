@@ -2,26 +2,23 @@
 -- count, and with a first label of extent 0 none.
 -- Assumes nothing.
 use mathlib.Core.Path.{_≡_, refl, ap, sym, _∙_}
-use mathlib.Core.List.{List, [], _∷_}
+use mathlib.Core.List.{List, []}
 use Prim.Native.Nat.{ℕ, _*_, _≤_, _<_}
 use native.Mathlib.Omega.{arith}
 use borrow.Author.Needs.{needs}
 use lib.ListN.{drop}
 use Rattle.limits.specs.Limits.{labelsLimit}
 use Rattle.groups.specs.declared.groups.Group.{Group}
-use Rattle.groups.specs.Groups.{Label, size}
+use Rattle.groups.specs.Groups.{size}
 use Rattle.groups.specs.Held.{labelsIn}
 use Rattle.groups.specs.Foldable.{Foldable}
 use Rattle.groups.proofs.Points.{size-points}
 use Rattle.offsets.specs.declared.first_label.FirstLabel.{FirstLabel}
-use Rattle.offsets.specs.FirstLabel.{firstLabel, FirstLabelOf}
+use Rattle.offsets.specs.FirstLabel.{FirstLabelOf}
+use Rattle.offsets.proofs.Runs.{size-behind}
 use Rattle.sums.specs.Walk.{Walks}
 use Rattle.sums.proofs.walk.walk_of.Statement.{statement}
 use Rattle.sums.proofs.walk.walk_of.Tie as tie
-
-counted : (g : List Label) → size g ≡ firstLabel g .extent * size (drop 1 g)
-counted [] = refl
-counted (l ∷ g) = refl
 
 no-label : (g : Group) → g .count ≡ 0 → labelsIn g ≡ []
 unfolding labelsIn
@@ -37,7 +34,7 @@ walks g l runs few foldable is-first e long =
       small = omega (arith, size-points (labelsIn g), foldable .points);
       len = is-first .len;
       step = is-first .step;
-      counts = counted (labelsIn g) ∙ ap (λ (n : ℕ). n * size (drop 1 (labelsIn g))) (sym (is-first .len)) ∙ sym e;
+      counts = size-behind (labelsIn g) ∙ ap (λ (n : ℕ). n * size (drop 1 (labelsIn g))) (sym (is-first .len)) ∙ sym e;
       long = long;
     }
 

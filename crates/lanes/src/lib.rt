@@ -1,0 +1,2 @@
+// Lanes: products added to sums that stand side by side.
+pub mod lanes;

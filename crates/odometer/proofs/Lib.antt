@@ -1,0 +1,3 @@
+pub mod Carried
+pub mod CarriedCases
+pub mod NextCount
