@@ -1,6 +1,7 @@
--- Of a contraction that was accepted: filling D along the folded groups leaves the result, and reads and writes only inside the slices.
+-- Of a contraction that was accepted: filling D along the folded groups leaves the result, reads and writes only inside the slices, and
+-- writes no place twice.
 -- Assumes nothing.
-use mathlib.Core.Path.{_≡_, refl, sym, ap, subst}
+use mathlib.Core.Path.{_≡_, refl, sym, ap, _∙_, subst}
 use mathlib.Core.Bool.{Bool, true, cond}
 use mathlib.Core.List.{List}
 use mathlib.Core.Logic.{_≢_}
@@ -26,6 +27,7 @@ use Rattle.plan.proofs.Reached.{out-inside, reached-out, term-inside, reached-t
 use Rattle.dots.specs.Dot.{dot}
 use Rattle.sums.specs.Walk.{reached, sumFrom, Readable}
 use Rattle.output_run.specs.FilledOutput.{filled, Clear}
+use Rattle.next_runs.specs.NextRuns.{Distinct}
 
 module _ (c : Contraction) (w : Slices) (p : AllPassed (tensors c) (lengthsIn c w)) (base : Operand → ℕ)
     (bases : (o : Operand) → base o ≡ tensors c o .base) where
@@ -99,13 +101,28 @@ module _ (c : Contraction) (w : Slices) (p : AllPassed (tensors c) (lengthsIn c 
   put-value : ℕ → ℕ
   put-value m = value c w (outIndex (shapeIn c) m)
 
+  -- no two outputs have the same place
+  places-apart : (i k : ℕ) → i < size (outputs (shapeIn c)) → k < size (outputs (shapeIn c)) → place i ≡ place k → i ≡ k
+  unfolding place
+  places-apart = outputs-apart (tensors c) (length (w D)) (rw (p .agree) tt) (rw (p .within D) tt) (rw (p .distinct) tt)
+
+  pub distinct : Distinct (size outer) (λ m. words m D)
+  unfolding place
+  distinct =
+      record {
+        each = λ i k h l e.
+            let first : i < size (outputs (shapeIn c)) = rw (fold-size (outputs (shapeIn c))) at h in
+            let second : k < size (outputs (shapeIn c)) = rw (fold-size (outputs (shapeIn c))) at l in
+            places-apart i k first second (sym (word-out i first) ∙ e ∙ word-out k second);
+      }
+
   -- a place that is still to come holds its old word
   unfilled : (m : ℕ) → m < size (outputs (shapeIn c)) → getD (overwrite m place put-value (w D)) (place m) 0 ≡ entry c w D (outIndex (shapeIn c) m)
   unfolding place put-value entry
   unfilled m h = puts-other place (λ k was. put-value k) m (place m) (w D) other
     where
       other : (k : ℕ) → k < m → place k ≢ place m
-      other k i e = let q : k ≡ m = outputs-apart (tensors c) (length (w D)) (rw (p .agree) tt) (rw (p .within D) tt) (rw (p .distinct) tt) k m (omega arith) h e in omega (arith, q)
+      other k i e = let q : k ≡ m = places-apart k m (omega arith) h e in omega (arith, q)
 
   fills : (m : ℕ) → m ≤ size (outputs (shapeIn c)) → each m (λ m. filled (c .named) (c .alpha) (c .beta) inner (w A) (w B) (w C) (words m)) (w D) ≡ overwrite m place put-value (w D)
   unfolding each filled put place put-value

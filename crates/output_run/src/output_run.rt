@@ -1,9 +1,7 @@
 ghost use mathlib.Core.Path.{_≡_};
 ghost use lib.ListN.{length};
-ghost use Rattle.words.specs.Loops.{each};
-ghost use Rattle.odometer.specs.Odometer.{Rows};
-ghost use Rattle.sums.specs.Walk.{steps, over, Walks};
-ghost use Rattle.output_run.specs.FilledOutput.{filled, Clear};
+ghost use Rattle.sums.specs.Walk.{over};
+ghost use Rattle.output_run.specs.FilledOutput.{runFilled, RunFillable};
 use contraction::contraction::Contraction;
 use offsets::offsets::Offsets;
 use output_words::output::combine;
@@ -27,12 +25,9 @@ pub fn fill_run(
     table: &[u64],
     count: usize,
 )
-    requires { ⌜ Walks (over depth) depth
-        × Clear named len (steps from step) (over depth) (now a) (now b) (now c) (length (now d))
-        × Rows (over depth) count (now table) ⌝ }
+    requires { ⌜ RunFillable named step len from depth (now a) (now b) (now c) (length (now d)) count (now table) ⌝ }
     ensures { λ _. ⌜ now (d .exit)
-        ≡ each len (λ v. filled named alpha beta (over depth) (now (a .entry)) (now (b .entry)) (now (c .entry)) (steps from step v))
-        (now (d .entry)) ⌝ }
+        ≡ runFilled named alpha beta (over depth) (now (a .entry)) (now (b .entry)) (now (c .entry)) step len from (now (d .entry)) ⌝ }
 {
     let mut at = from;
     let mut v: u32 = 0;

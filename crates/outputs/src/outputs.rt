@@ -1,12 +1,10 @@
 ghost use mathlib.Core.Path.{_≡_};
 ghost use Prim.Native.Nat.{_*_, _≤_, min};
 ghost use lib.ListN.{length};
-ghost use Rattle.words.specs.Loops.{each};
 ghost use Rattle.limits.specs.Limits.{blockLimit};
 ghost use Rattle.offsets.specs.Offsets.{wordsIn, Words};
-ghost use Rattle.odometer.specs.Odometer.{Rows};
-ghost use Rattle.sums.specs.Walk.{steps, over, Walks};
-ghost use Rattle.output_run.specs.FilledOutput.{filled, Clear};
+ghost use Rattle.sums.specs.Walk.{over};
+ghost use Rattle.output_run.specs.FilledOutput.{runFilled, RunFillable};
 use contraction::contraction::Contraction;
 use offsets::offsets::Offsets;
 use output_block::output_block::fill_block;
@@ -24,14 +22,14 @@ fn width_of(step: Offsets) -> u32
     }
 }
 
-fn clipped(left: u32, width: u32) -> u32
+pub fn clipped(left: u32, width: u32) -> u32
     ensures { λ r. ⌜ r ≡ min left width ⌝ }
 {
     if left < width { left } else { width }
 }
 
 // That many steps at once.
-fn leap_of(step: Offsets, width: u32) -> Offsets
+pub fn leap_of(step: Offsets, width: u32) -> Offsets
     ensures { λ r. ⌜ Words r (λ o. width * wordsIn step o) ⌝ }
 {
     let mut words = [0u64; Contraction::TENSORS];
@@ -59,12 +57,9 @@ fn fill_blocks(
     table: &[u64],
     count: usize,
 )
-    requires { ⌜ Walks (over depth) depth
-        × Clear named len (steps from step) (over depth) (now a) (now b) (now c) (length (now d))
-        × Rows (over depth) count (now table) ⌝ }
+    requires { ⌜ RunFillable named step len from depth (now a) (now b) (now c) (length (now d)) count (now table) ⌝ }
     ensures { λ _. ⌜ now (d .exit)
-        ≡ each len (λ v. filled named alpha beta (over depth) (now (a .entry)) (now (b .entry)) (now (c .entry)) (steps from step v))
-        (now (d .entry)) ⌝ }
+        ≡ runFilled named alpha beta (over depth) (now (a .entry)) (now (b .entry)) (now (c .entry)) step len from (now (d .entry)) ⌝ }
 {
     let width = width_of(step);
     let leap = leap_of(step, width);
@@ -122,12 +117,9 @@ pub fn fill_outputs(
     table: &[u64],
     count: usize,
 )
-    requires { ⌜ Walks (over depth) depth
-        × Clear named len (steps from step) (over depth) (now a) (now b) (now c) (length (now d))
-        × Rows (over depth) count (now table) ⌝ }
+    requires { ⌜ RunFillable named step len from depth (now a) (now b) (now c) (length (now d)) count (now table) ⌝ }
     ensures { λ _. ⌜ now (d .exit)
-        ≡ each len (λ v. filled named alpha beta (over depth) (now (a .entry)) (now (b .entry)) (now (c .entry)) (steps from step v))
-        (now (d .entry)) ⌝ }
+        ≡ runFilled named alpha beta (over depth) (now (a .entry)) (now (b .entry)) (now (c .entry)) step len from (now (d .entry)) ⌝ }
 {
     let inner = depth.step;
     if side_by_side(len, step, inner, depth.len) {

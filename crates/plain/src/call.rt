@@ -6,7 +6,9 @@ use answers::plain_answer::Outcome;
 use contraction::contraction::Contraction;
 use contraction::contraction::Lengths;
 use direct::fill::fill;
-use plan::plan::output_plan_of;
+use folding::fold::folded;
+use groups::groups::groups_of;
+use plan::plan::base_of;
 use questions::questions::first_no;
 use sums::walk::walk_of;
 
@@ -26,7 +28,10 @@ pub fn contract(k: Contraction, a: &[u32], b: &[u32], c: &[u32], d: &mut [u32]) 
     if number != 0 {
         return Outcome::Refused(number);
     }
-    let p = output_plan_of(k, x.lists);
+    let lists = x.lists;
+    let sets = groups_of(lists);
+    let output = folded(lists, lists.d.letters.set);
+    let depth = folded(lists, sets.depth);
     fill(
         a,
         b,
@@ -35,9 +40,9 @@ pub fn contract(k: Contraction, a: &[u32], b: &[u32], c: &[u32], d: &mut [u32]) 
         k.named,
         k.alpha,
         k.beta,
-        p.base,
-        walk_of(p.output),
-        walk_of(p.depth),
+        base_of(k),
+        walk_of(output),
+        walk_of(depth),
     );
     Outcome::Done
 }

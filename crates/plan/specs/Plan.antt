@@ -17,7 +17,6 @@ use Rattle.offsets.specs.declared.offsets.Offsets.{Offsets}
 use Rattle.offsets.specs.Offsets.{wordsIn}
 use Rattle.folding.specs.Fold.{fold}
 use Rattle.plan.specs.declared.plan.Plan.{Plan}
-use Rattle.plan.specs.declared.plan.OutputPlan.{OutputPlan}
 
 -- there is room for all labels, and those whose letters pass any test can be folded
 pub record AllFoldable (s : Shape) : Type 0 where
@@ -37,9 +36,10 @@ pub record Planned (t : Operand → Layout) (p : Plan) : Type 0 where
   pub few : (g : Group) → planned p g .count ≤ labelsLimit
   pub bases : (o : Operand) → wordsIn (p .base) o ≡ t o .base
 
-pub record OutputPlanned (t : Operand → Layout) (p : OutputPlan) : Type 0 where
-  pub output : labelsIn (p .output) ≡ fold (outputs (shape t))
-  pub few-output : p .output .count ≤ labelsLimit
-  pub depth : labelsIn (p .depth) ≡ fold (group (shape t) depth)
-  pub few-depth : p .depth .count ≤ labelsLimit
-  pub bases : (o : Operand) → wordsIn (p .base) o ≡ t o .base
+-- of what the plain engine walks: D's labels and the depth group
+pub record OutputPlanned (t : Operand → Layout) (outer inner : GroupCode) (base : Offsets) : Type 0 where
+  pub output : labelsIn outer ≡ fold (outputs (shape t))
+  pub few-output : outer .count ≤ labelsLimit
+  pub depth : labelsIn inner ≡ fold (group (shape t) depth)
+  pub few-depth : inner .count ≤ labelsLimit
+  pub bases : (o : Operand) → wordsIn base o ≡ t o .base

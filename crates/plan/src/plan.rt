@@ -2,11 +2,10 @@ ghost use mathlib.Core.Path.{_≡_};
 ghost use mathlib.Core.Bool.{cond};
 ghost use Rattle.contraction.specs.Operands.{tensors, shape};
 ghost use Rattle.contraction.specs.TensorAxes.{Ready};
-ghost use Rattle.plan.specs.Plan.{AllFoldable, Bases, Planned, OutputPlanned};
+ghost use Rattle.plan.specs.Plan.{AllFoldable, Bases, Planned};
 use contraction::contraction::Contraction;
 use contraction::operands::Operands;
 use folding::fold::folded;
-use groups::groups::Group;
 use groups::groups::Groups;
 use groups::groups::groups_of;
 use offsets::offsets::Offsets;
@@ -17,13 +16,6 @@ pub struct Plan {
     pub base: Offsets,
 }
 
-// What the plain engine walks: D's labels and the depth group, folded, and where each tensor begins.
-pub struct OutputPlan {
-    pub output: Group,
-    pub depth: Group,
-    pub base: Offsets,
-}
-
 // Where C begins. Where C is not named, that is where D begins.
 fn base_of_c(named: bool, c: u32, d: u32) -> u32
     ensures { λ r. ⌜ r ≡ cond named c d ⌝ }
@@ -31,7 +23,8 @@ fn base_of_c(named: bool, c: u32, d: u32) -> u32
     if named { c } else { d }
 }
 
-fn base_of(c: Contraction) -> Offsets
+// Where each tensor begins.
+pub fn base_of(c: Contraction) -> Offsets
     ensures { λ r. ⌜ Bases (tensors c) r ⌝ }
 {
     let a = c.a;
@@ -61,18 +54,6 @@ pub fn plan_of(c: Contraction, x: Operands) -> Plan
     };
     Plan {
         groups,
-        base: base_of(c),
-    }
-}
-
-pub fn output_plan_of(c: Contraction, x: Operands) -> OutputPlan
-    requires { ⌜ Ready c x × AllFoldable (shape (tensors c)) ⌝ }
-    ensures { λ r. ⌜ OutputPlanned (tensors c) r ⌝ }
-{
-    let sets = groups_of(x);
-    OutputPlan {
-        output: folded(x, x.d.letters.set),
-        depth: folded(x, sets.depth),
         base: base_of(c),
     }
 }

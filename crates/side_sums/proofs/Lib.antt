@@ -1,1 +1,2 @@
+pub mod GroupSums
 pub mod SideTurns

@@ -30,7 +30,7 @@ module _ (g : List Label) (w : Walk) (k : Walks g w) where
   first-place o x v h = rw (k .step o, offset-first (λ l. wordOf 64 (l .stride o)) g (w .len) v refl (k .len) h)
 
   -- where there is a run, there is one for each count of the labels behind the first
-  runs-behind : {m : ℕ} → m < w .runs → w .runs ≡ size (drop 1 g)
+  pub runs-behind : {m : ℕ} → m < w .runs → w .runs ≡ size (drop 1 g)
   runs-behind h =
       eq-of-mul-eq-mul-left (w .len) (k .long (omega arith)) (w .runs) (size (drop 1 g))
       (sym (k .counts) ∙ size-behind g ∙ ap (λ (x : ℕ). x * size (drop 1 g)) (sym (k .len)))

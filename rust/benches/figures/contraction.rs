@@ -73,8 +73,14 @@ impl Contraction {
 
     /// The tiled engine, all tiles in one call.
     pub fn contract_tiled(&self, d: &mut [u32], work: &mut [u32]) {
-        let progress = self.lent().run_tiles(d, TILE, work, 0, u64::MAX).expect("an accepted contraction");
+        self.run_all_tiles(d, TILE, work);
+    }
+
+    /// The same with tiles of any sizes. How many there are.
+    pub fn run_all_tiles(&self, d: &mut [u32], sizes: TileSizes, work: &mut [u32]) -> u64 {
+        let progress = self.lent().run_tiles(d, sizes, work, 0, u64::MAX).expect("an accepted contraction");
         assert!(progress.complete, "tiles are left");
+        progress.done
     }
 }
 

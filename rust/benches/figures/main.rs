@@ -17,8 +17,10 @@ mod shown;
 
 use measured::contest::{Case, Times};
 use measured::required::Required;
-use measured::{before, calls, cases, delays, forms, one_tile, required, scaling, stretches, walks};
-use shown::{archives, bars, document, lines, machine, scores, tables};
+use measured::{
+    before, calls, cases, delays, forms, labels, one_tile, required, scaling, stretches, tile_sizes, walks,
+};
+use shown::{archives, bars, costs, document, lines, machine, scores, tables};
 use std::process::ExitCode;
 
 fn main() -> ExitCode {
@@ -34,6 +36,7 @@ fn main() -> ExitCode {
         ("Blocks by stretches", archives::blocks(&stretches)),
         ("Walks of the plain engine", archives::walks(&walks::all())),
         ("Calls", tables::calls(&calls)),
+        ("What a call and a tile cost", costs::costs(&labels::all(), &tile_sizes::all())),
         ("Delay", tables::delays(&delays)),
         ("Forms of the odometer", tables::forms(&forms)),
         ("Machine", machine::machine()),

@@ -57,6 +57,32 @@ pub fn reversed_into_gaps() -> Contraction {
     )
 }
 
+/// 'abk,kc->abc': A is stored as bka and D as bca, so that the rows, of which a is the first label, come in pairs that lie
+/// 32,768 words apart.
+pub fn scattered() -> Contraction {
+    Contraction::random(
+        ("abk", &[2, 128, 256], &[32768, 1, 128], 0),
+        ("kc", &[256, 256], &[1, 256], 0),
+        ("abc", &[2, 128, 256], &[32768, 1, 128], 0),
+    )
+}
+
+/// 'ik,k->i': A's rows lie one after the other.
+pub fn rows_times_vector(size: u32) -> Contraction {
+    Contraction::random(("ik", &[size, size], &[size as i32, 1], 0), ("k", &[size], &[1], 0), ("i", &[size], &[1], 0))
+}
+
+/// 'k,kj->j': B's rows lie one after the other.
+pub fn vector_times_rows(size: u32) -> Contraction {
+    Contraction::random(("k", &[size], &[1], 0), ("kj", &[size, size], &[size as i32, 1], 0), ("j", &[size], &[1], 0))
+}
+
+/// 'i,j->ij'.
+pub fn outer(size: u32) -> Contraction {
+    let strides = [1, size as i32];
+    Contraction::random(("i", &[size], &[1], 0), ("j", &[size], &[1], 0), ("ij", &[size, size], &strides, 0))
+}
+
 /// 'ik,kj->ij': rows lie one after the other in each matrix.
 pub fn row_major(size: u32) -> Contraction {
     let (extents, strides) = ([size, size], [size as i32, 1]);

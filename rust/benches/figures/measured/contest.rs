@@ -19,13 +19,27 @@ pub struct Case {
 }
 
 pub struct Times {
+    /// How many tiles the tiled engine runs.
+    pub tiles: u64,
     pub tiled: Duration,
     pub plain: Duration,
     pub odometer: Duration,
     pub nest: Duration,
 }
 
+impl Times {
+    /// The tiled time / the number of tiles.
+    pub fn one_tile(&self) -> Duration {
+        self.tiled.div_f64(self.tiles as f64)
+    }
+}
+
 impl Case {
+    /// A case of which no ratio is required.
+    pub fn new(name: &'static str, contraction: Contraction, nest: Nest, pace: Pace) -> Self {
+        Self { name, contraction, nest, pace, over_odometer: None, over_nest: None }
+    }
+
     /// Each contender has a D of its own. All run equally often, so the words are the same after each turn; they are
     /// compared after the first, which is not timed, and after the last.
     pub fn measure(&self) -> Times {
@@ -33,7 +47,7 @@ impl Case {
         let mut outputs = [(); 4].map(|()| self.contraction.d.words.clone());
         self.run(Pace { turns: 1, repeats: 1 }, &mut outputs);
         let [tiled, plain, odometer, nest] = self.run(self.pace, &mut outputs);
-        Times { tiled, plain, odometer, nest }
+        Times { tiles: self.tiles(), tiled, plain, odometer, nest }
     }
 
     fn run(&self, pace: Pace, outputs: &mut [Vec<u32>; 4]) -> [Duration; 4] {
@@ -49,6 +63,11 @@ impl Case {
         let times = best_times(pace, contenders);
         self.compare(outputs);
         times
+    }
+
+    fn tiles(&self) -> u64 {
+        let (mut d, mut work) = (self.contraction.d.words.clone(), vec![0; TILE.work_words()]);
+        self.contraction.run_all_tiles(&mut d, TILE, &mut work)
     }
 
     /// The product of the extents of all labels.

@@ -1,6 +1,7 @@
 //! Horizontal bars: the speed of each contender on each case, that of the odometer being 1.
 
 use super::svg::{legend, Anchor, Svg, GRID, INK, NEST, PLAIN, TILED};
+use super::text::digits;
 use crate::measured::contest::{ratio, Case, Times};
 
 const WIDTH: f64 = 860.0;
@@ -52,6 +53,6 @@ fn group(svg: &mut Svg, most: f64, top: f64, name: &str, times: &Times) {
     for (n, (speed, colour)) in speeds(times).into_iter().zip([TILED, PLAIN, NEST]).enumerate() {
         let y = top + 9.0 + BAR * n as f64;
         svg.bar([LEFT, y], [place(speed, most) - LEFT, BAR - 2.0], colour);
-        svg.text([place(speed, most) + 5.0, y + BAR - 4.0], Anchor::Start, 12, &format!("{speed:.1}"));
+        svg.text([place(speed, most) + 5.0, y + BAR - 4.0], Anchor::Start, 12, &digits(speed));
     }
 }

@@ -2,6 +2,7 @@
 
 pub mod archives;
 pub mod bars;
+pub mod costs;
 pub mod document;
 pub mod lines;
 pub mod machine;

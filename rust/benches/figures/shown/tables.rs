@@ -23,16 +23,21 @@ pub fn cases(cases: &[(Case, Times)]) -> String {
         "odometer / tiled",
         "odometer / plain",
         "loop nest / tiled",
+        "loop nest / plain",
+        "tiles",
+        "one tile",
     ];
     table(&header, cases.iter().map(|(case, times)| case_row(case, times)))
 }
 
 fn case_row(case: &Case, times: &Times) -> Vec<String> {
-    let Times { tiled, plain, odometer, nest } = *times;
-    let times = [tiled, plain, odometer, nest].map(time);
-    let ratios = [(odometer, tiled), (odometer, plain), (nest, tiled)].map(|(other, engine)| by(ratio(other, engine)));
+    let Times { tiles, tiled, plain, odometer, nest } = *times;
+    let each = [tiled, plain, odometer, nest].map(time);
+    let pairs = [(odometer, tiled), (odometer, plain), (nest, tiled), (nest, plain)];
+    let ratios = pairs.map(|(other, engine)| digits(ratio(other, engine)));
     let names = [case.name.to_string(), count(case.multiply_adds()), case.pace.to_string()];
-    names.into_iter().chain(times).chain(ratios).collect()
+    let by_tiles = [count(tiles), time(times.one_tile())];
+    names.into_iter().chain(each).chain(ratios).chain(by_tiles).collect()
 }
 
 /// The layouts of the cases: letters, strides and base.
@@ -45,6 +50,9 @@ pub fn layouts(cases: &[(Case, Times)]) -> String {
 }
 
 fn layout(tensor: &Tensor) -> String {
+    if tensor.letters.is_empty() {
+        return "no letters".to_string();
+    }
     let joined = |numbers: Vec<String>| numbers.join(" ");
     let extents = joined(tensor.extents.iter().map(ToString::to_string).collect());
     let strides = joined(tensor.strides.iter().map(ToString::to_string).collect());

@@ -23,6 +23,8 @@ pub fn time(time: Duration) -> String {
 /// Three digits.
 pub fn digits(number: f64) -> String {
     match number {
+        n if n < 0.009995 => format!("{n:.5}"),
+        n if n < 0.09995 => format!("{n:.4}"),
         n if n < 0.9995 => format!("{n:.3}"),
         n if n < 9.995 => format!("{n:.2}"),
         n if n < 99.95 => format!("{n:.1}"),

@@ -79,7 +79,7 @@ depth-sum-requires : tie.Need-depth-sum-requires Inv-loop μ-loop
 depth-sum-requires c κs =
     let s = c .before .before .before .before .before .before .before in
     let l = c .before .loop in
-    (s .pre .0, subst (Readable (labelsIn (s .args .depth .group)) (s .args .a .now) (s .args .b .now)) (sym (l .inv .2)) (s .pre .1 .reads (l .v) (omega arith)), s .pre .2)
+    (s .pre .walks, subst (Readable (labelsIn (s .args .depth .group)) (s .args .a .now) (s .args .b .now)) (sym (l .inv .2)) (s .pre .clear .reads (l .v) (omega arith)), s .pre .rows)
 
 element-copy-out-place : tie.Need-element-copy-out-place Inv-loop μ-loop
 element-copy-out-place c = lit< tt
@@ -88,14 +88,14 @@ mul-old : tie.Need-mul-old Inv-loop μ-loop
 mul-old c =
     let s = c .before .before .before .before .before .before .before .before .before in
     let l = c .before .before .before .loop in
-    let h : wordsIn (l .at) D < length (s .args .d .now) = inside (s .pre .1) (l .inv .2) (omega arith) in
+    let h : wordsIn (l .at) D < length (s .args .d .now) = inside (s .pre .clear) (l .inv .2) (omega arith) in
     omega arith
 
 slice-read-old : tie.Need-slice-read-old Inv-loop μ-loop
 slice-read-old c =
     let s = c .before .before .before .before .before .before .before .before .before .before in
     let l = c .before .before .before .before .loop in
-    let h : wordsIn (l .at) D < length (s .args .d .now) = inside (s .pre .1) (l .inv .2) (omega arith) in
+    let h : wordsIn (l .at) D < length (s .args .d .now) = inside (s .pre .clear) (l .inv .2) (omega arith) in
     omega arith
 
 element-copy-out-start-of : tie.Need-element-copy-out-start-of Inv-loop μ-loop
@@ -105,7 +105,7 @@ start-of-requires : tie.Need-start-of-requires Inv-loop μ-loop
 start-of-requires c κs =
     let s = c .before .before .before .before .before .before .before .before .before .before .before in
     let l = c .before .before .before .before .before .loop in
-    c-inside (s .pre .1) (l .inv .2) (omega arith)
+    c-inside (s .pre .clear) (l .inv .2) (omega arith)
 
 combine-requires : tie.Need-combine-requires Inv-loop μ-loop
 combine-requires c κs = tt

@@ -1,65 +1,19 @@
 -- `fill_blocks` meets its contract. The invariant: the words of D are those that the first v counts of the run leave, and where counts are left, the address
 -- words are v steps from the first. A turn fills a block of the next counts, or those that are left. The measure is how many are left.
 -- Assumes nothing.
-use mathlib.Core.Path.{_≡_, refl, ap, sym, _∙_, subst⁻¹, fun-ext}
-use mathlib.Core.Bool.{Bool}
-use mathlib.Core.List.{List}
-use Prim.Native.Nat.{ℕ, _+_, _-_, _*_, _^_, _<_, _≤_, min}
+use mathlib.Core.Path.{_≡_, refl, _∙_}
+use Prim.Native.Nat.{_-_, _<_, _≤_}
 use native.Mathlib.Omega.{arith}
 use borrow.Author.Needs.{needs}
-use lib.ListN.{length, getD}
-use Rattle.words.specs.Words.{word}
+use lib.ListN.{length}
 use Rattle.words.specs.Loops.{each}
-use Rattle.words.proofs.Loops.{each-more}
-use Rattle.words.proofs.Modular.{word-add-right}
-use Rattle.contraction.specs.Operands.{Operand, C, D}
-use Rattle.contraction.specs.TensorPlaces.{operandNumber}
-use Rattle.groups.specs.Groups.{Label}
-use Rattle.offsets.specs.declared.offsets.Offsets.{Offsets}
-use Rattle.offsets.specs.Offsets.{wordsIn, Words}
+use Rattle.offsets.specs.Offsets.{wordsIn}
 use Rattle.offsets.proofs.OwnedWords.{words-fit}
-use Rattle.sums.specs.Walk.{steps, over, Readable}
-use Rattle.output_run.specs.FilledOutput.{filled, Clear}
+use Rattle.sums.specs.Walk.{steps, over}
+use Rattle.output_run.specs.FilledOutput.{filled}
+use Rattle.outputs.proofs.Blocks.{steps-first, leapt, block-clear, block-turn}
 use Rattle.outputs.proofs.outputs.fill_blocks.Statement.{statement}
 use Rattle.outputs.proofs.outputs.fill_blocks.Tie as tie
-
--- no step
-steps-first : (from step : Offsets) → ((k : ℕ) → getD (from .words) k 0 < 2 ^ 64) → wordsIn from ≡ steps from step 0
-steps-first from step h = fun-ext (λ o. omega (arith, h (operandNumber o)))
-
-module _ (from step at : Offsets) (v n : ℕ) (e : wordsIn at ≡ steps from step v) where
-  -- n steps from v steps on
-  steps-more : steps at step n ≡ steps from step (v + n)
-  steps-more = fun-ext (λ o. same o (ap (λ (f : Operand → ℕ). f o) e))
-    where
-      same : (o : Operand) → wordsIn at o ≡ steps from step v o → steps at step n o ≡ steps from step (v + n) o
-      same o f = omega arith
-
-  -- and moved by them at once
-  leapt : (width : ℕ) {by to : Offsets} → n ≡ width → Words by (λ o. width * wordsIn step o) → Words to (λ o. wordsIn at o + wordsIn by o) → wordsIn to ≡ steps from step (v + n)
-  leapt width q w p =
-      fun-ext
-      (λ o.
-      p .each o ∙ ap (λ (x : ℕ). word 64 (wordsIn at o + x)) (w .each o) ∙ word-add-right 64 (wordsIn at o) (width * wordsIn step o)
-      ∙ ap (λ (x : ℕ). word 64 (wordsIn at o + x * wordsIn step o)) (sym q) ∙ ap (λ (f : Operand → ℕ). f o) steps-more)
-
-module _ (from step at : Offsets) (v : ℕ) (e : wordsIn at ≡ steps from step v) where
-  -- a block of a run that is clear
-  block-clear : (n len : ℕ) {named : Bool} {g : List Label} {a b c : List ℕ} {size : ℕ} → v + n ≤ len → Clear named len (steps from step) g a b c size
-      → Clear named n (steps at step) g a b c size
-  block-clear n len {g = g} {a} {b} {c} {size} h k =
-      record {
-        reads = λ r i. subst⁻¹ (Readable g a b) (steps-more from step at v r e) (k .reads (v + r) (omega arith));
-        starts = λ t. record { each = λ r i. subst⁻¹ (λ (f : Operand → ℕ). f C < length c) (steps-more from step at v r e) (k .starts t .each (v + r) (omega arith)) };
-        writes = record { each = λ r i. subst⁻¹ (λ (f : Operand → ℕ). f D < size) (steps-more from step at v r e) (k .writes .each (v + r) (omega arith)) };
-      }
-
-  -- D's words after a block
-  turn : (body : (Operand → ℕ) → List ℕ → List ℕ) (n : ℕ) (d₀ : List ℕ) {d new : List ℕ} → d ≡ each v (λ k. body (steps from step k)) d₀
-      → new ≡ each n (λ r. body (steps at step r)) d → new ≡ each (v + n) (λ k. body (steps from step k)) d₀
-  turn body n d₀ i j =
-      j ∙ ap (each n (λ r. body (steps at step r))) i
-      ∙ each-more v n (λ k. body (steps from step k)) (λ r. body (steps at step r)) d₀ (λ r h x. rw (steps-more from step at v r e))
 
 abbrev Inv-loop : tie.InvT-loop
 Inv-loop a b c d₀ named alpha beta step len depth table count width leap at₀ v₀ d at v =
@@ -99,9 +53,11 @@ fill-block-requires c κs =
     let h : l .v < s .args .len = omega arith in (
       omega (arith, e, w .0),
       omega (arith, e, w .1),
-      s .pre .0,
-      block-clear (s .args .from) (s .args .step) (l .at) (l .v) (l .inv .2 h) (c .before .clipped .result) (s .args .len) (omega (arith, e)) (rw (l .inv .1) (s .pre .1)),
-      s .pre .2,
+      record {
+        walks = s .pre .walks;
+        rows = s .pre .rows;
+        clear = block-clear (s .args .from) (s .args .step) (l .at) (l .v) (l .inv .2 h) (c .before .clipped .result) (s .args .len) (omega (arith, e)) (rw (l .inv .1) (s .pre .clear));
+      },
     )
 
 plus-requires : tie.Need-plus-requires Inv-loop μ-loop
@@ -125,7 +81,7 @@ loop-again c =
       omega (arith, e),
       f .kept .1 .1 .1 .0 ∙ l .inv .1,
       λ i. leapt (x .from) (x .step) (l .at) (l .v) n (l .inv .2 h) (c .before .before .before .before .before .before .before .before .before .width-of .result) (omega (arith, e)) (c .before .before .before .before .before .before .before .before .leap-of .ensures) (c .plus .ensures),
-      turn (x .from) (x .step) (l .at) (l .v) (l .inv .2 h) (filled (x .named) (x .alpha) (x .beta) (over (x .depth)) (x .a .now) (x .b .now) (x .c .now)) n (x .d .now)
+      block-turn (x .from) (x .step) (l .at) (l .v) (l .inv .2 h) (filled (x .named) (x .alpha) (x .beta) (over (x .depth)) (x .a .now) (x .b .now) (x .c .now)) n (x .d .now)
           (l .inv .3) (f .ensures),
     )
 

@@ -1,22 +1,18 @@
 -- `block_sums` meets its contract. The invariant: each sum has grown by the products at the counts of the first m runs, and where there is a run m, the digits
 -- and address words are where it begins. A run's places are those of its counts. The measure is how many runs are left.
 -- Assumes nothing.
-use mathlib.Core.Path.{_≡_, refl, ap, sym, _∙_}
+use mathlib.Core.Path.{_≡_, refl, sym, _∙_}
 use mathlib.Core.List.{List}
 use Prim.Native.Nat.{ℕ, _+_, _*_, _-_, _≤_, _<_}
-use native.Mathlib.Nat.{mul-zero, mul-suc}
-use native.Mathlib.Numerals.{add-one}
+use native.Mathlib.Nat.{mul-zero}
 use native.Mathlib.Omega.{arith}
 use lib.Dec.{lit<}
-use lib.ListN.{length, getD, drop, replicate, getD-replicate}
-use Rattle.words.specs.Words.{word}
+use lib.ListN.{length, drop, replicate}
 use Rattle.words.specs.Sums.{sumTo}
-use Rattle.words.specs.Loops.{Within}
 use Rattle.words.specs.Stepped.{stepped}
-use Rattle.words.proofs.Sums.{sumTo-ext, sumTo-add}
 use Rattle.limits.specs.Limits.{blockLimit, labelsLimit}
 use Rattle.contraction.specs.Operands.{Operand, A, B}
-use Rattle.groups.specs.Groups.{Label, size}
+use Rattle.groups.specs.Groups.{Label}
 use Rattle.offsets.specs.declared.offsets.Offsets.{Offsets}
 use Rattle.offsets.specs.Offsets.{wordsIn}
 use Rattle.offsets.proofs.OwnedWords.{words-fit}
@@ -24,15 +20,12 @@ use Rattle.odometer.specs.Odometer.{Stands}
 use Rattle.sums.specs.declared.walk.Walk.{Walk}
 use Rattle.dots.specs.Dot.{dot}
 use Rattle.sums.specs.Walk.{reached, steps, sumFrom, over, Walks}
-use Rattle.sums.proofs.GroupRuns.{run-below, run-place, first-run, next-run}
-use Rattle.side_sums.specs.SideSums.{sideRun, Sums, Added, RunsInside, AllReadable}
-use Rattle.side_sums.proofs.SideTurns.{added-none, added-more}
+use Rattle.sums.proofs.GroupRuns.{run-place, first-run, next-run}
+use Rattle.side_sums.specs.SideSums.{sideRun, Added, RunsInside, AllReadable}
+use Rattle.side_sums.proofs.SideTurns.{added-none}
+use Rattle.side_sums.proofs.GroupSums.{upTo, run-inside, run-added, total}
 use Rattle.side_sums.proofs.side.block_sums.Statement.{statement}
 use Rattle.side_sums.proofs.side.block_sums.Tie as tie
-
--- the sum over the first k counts of a group, for the output that stands at x in A and at y in B
-abbrev upTo : List Label → List ℕ → List ℕ → ℕ → ℕ → ℕ → ℕ
-upTo g a b k x y = dot k (reached A x g) a (reached B y g) b
 
 -- run m, from where it begins, for the output r steps along
 module _ {g : List Label} {w : Walk} (k : Walks g w) (from along : Offsets) {m : ℕ} (h : m < w .runs) {array : List ℕ} {at : Offsets}
@@ -43,24 +36,12 @@ module _ {g : List Label} {w : Walk} (k : Walks g w) (from along : Offsets) {m :
   place : (o : Operand) (r v : ℕ) → v < w .len → side o r v ≡ reached o (steps from along r o) g (w .len * m + v)
   place o r v i = omega (arith, run-place g w k h s o v i)
 
-  within : (o : Operand) (r : ℕ) {n : ℕ} → Within (size g) (reached o (steps from along r o) g) n → Within (w .len) (side o r) n
-  within o r i = record { each = λ v l. rw (place o r v l) (i .each (w .len * m + v) (run-below g w k m v h l)) }
-
   inside : {n : ℕ} {a b : List ℕ} → AllReadable n g a b (steps from along) → RunsInside n (w .len) (side A) (side B) a b
-  inside q = record { each = λ r l. record { inA = within A r (q .each r l .inA); inB = within B r (q .each r l .inB) } }
+  inside q = run-inside k h _ _ (side A) (side B) (place A) (place B) (λ r l. q .each r l .inA) (λ r l. q .each r l .inB)
 
   turn : {n : ℕ} (a b : List ℕ) {old mid new : List ℕ} → Added n (λ r. upTo g a b (w .len * m) (steps from along r A) (steps from along r B)) old mid
       → Added n (λ r. dot (w .len) (side A r) a (side B r) b) mid new → Added n (λ r. upTo g a b (w .len * (m + 1)) (steps from along r A) (steps from along r B)) old new
-  unfolding dot
-  turn a b p q =
-      added-more _ _ _
-      (λ r l. rw (add-one, mul-suc, sumTo-add (w .len * m) (w .len) _)
-      (ap (λ (x : ℕ). upTo g a b (w .len * m) (steps from along r A) (steps from along r B) + x) (sumTo-ext (w .len) (λ v i. rw (place A r v i, place B r v i)))))
-      p q
-
--- from sums of 0
-total : {n : ℕ} {f : ℕ → ℕ} {sums : List ℕ} → n ≤ blockLimit → Added n f (replicate blockLimit 0) sums → Sums n f sums
-total few a = record { each = λ r h. omega (arith, a .each r h, getD-replicate {A = ℕ} blockLimit r 0 0 (omega arith)) }
+  turn = run-added k h (λ r. steps from along r A) (λ r. steps from along r B) (side A) (side B) (place A) (place B)
 
 abbrev Inv-loop : tie.InvT-loop
 Inv-loop a b n depth table count step-a step-b along-a along-b sums₀ digits₀ at₀ m₀ sums digits at m =

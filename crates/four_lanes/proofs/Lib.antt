@@ -1,0 +1,2 @@
+pub mod ByRun
+pub mod LaneShared
