@@ -1,8 +1,9 @@
 -- The sums of a column while the kernel goes through the depth: at first none, and then one packed lane more at a time.
 -- Assumes nothing.
-use mathlib.Core.Path.{_≡_, refl, ap, _∙_}
+use mathlib.Core.Path.{_≡_, refl, sym, ap, _∙_}
 use mathlib.Core.List.{List}
 use Prim.Native.Nat.{ℕ, _+_, _*_, _≤_}
+use native.Mathlib.Nat.{mul-comm}
 use native.Mathlib.Numerals.{add-one}
 use native.Mathlib.Omega.{arith}
 use lib.ListN.{length, getD, replicate, getD-replicate}
@@ -14,30 +15,59 @@ use Rattle.limits.specs.Limits.{blockLimit}
 use Rattle.lanes.specs.LaneProducts.{productsAdded, scaled}
 use Rattle.kernel.specs.Kernel.{columnSum, ColumnSums}
 
--- after d depth counts
-pub record Summed (work : List ℕ) (rows count from cols d : ℕ) (sums : List ℕ) : Type 0 where
+-- ---- sums that stand side by side
+pub record Summing (count : ℕ) (f : ℕ → ℕ) (sums : List ℕ) : Type 0 where
   pub len : length sums ≡ blockLimit
-  pub holds : ColumnSums count (columnSum work rows from cols d) sums
+  pub holds : ColumnSums count f sums
 
-module _ (work : List ℕ) (rows count from cols : ℕ) (few : count ≤ blockLimit) where
-  pub summed-none : Summed work rows count from cols 0 (replicate 64 0)
-  unfolding columnSum sumTo
-  summed-none = record { len = refl; holds = record { each = λ r h. getD-replicate 64 r 0 0 (omega arith) } }
+module _ (count : ℕ) (few : count ≤ blockLimit) where
+  pub none-summed : (f : ℕ → ℕ) → ((r : ℕ) → f r ≡ 0) → Summing count f (replicate 64 0)
+  none-summed f z = record { len = refl; holds = record { each = λ r h. getD-replicate 64 r 0 0 (omega arith) ∙ sym (ap (word 32) (z r)) } }
 
-  -- a lane times the column's next word: to reduce the sum so far first changes nothing
-  pub summed-turn : (d : ℕ) {by : ℕ} {sums next : List ℕ} → Summed work rows count from cols d sums → by ≡ getD work (from + cols * d) 0
-      → next ≡ productsAdded count (scaled work (rows * d) by) sums → Summed work rows count from cols (d + 1) next
-  unfolding columnSum sumTo
-  summed-turn d {by} {sums} s q e =
-      let fits : count ≤ length sums = omega (arith, s .len) in
+  -- a product more in each: to reduce the sum so far first changes nothing
+  pub one-more : (f g v : ℕ → ℕ) {sums next : List ℕ} → Summing count f sums → next ≡ productsAdded count v sums → ((r : ℕ) → g r ≡ f r + v r) → Summing count g next
+  one-more f g v {sums} s e q =
       record {
         len = ap length e ∙ length-puts (λ k. k) added count sums ∙ s .len;
         holds = record {
           each = λ r h.
-              ap (λ (xs : List ℕ). getD xs r 0) e ∙ puts-at (λ k. k) added count sums (λ i k p q e. e) (record { each = λ k b. omega arith }) r h ∙ ap (added r) (s .holds .each r h)
-              ∙ rw (q, add-one) (word-add-left 32 (columnSum work rows from cols d r) (getD work (rows * d + r) 0 * getD work (from + cols * d) 0));
+              ap (λ (xs : List ℕ). getD xs r 0) e
+              ∙ puts-at (λ k. k) added count sums (λ i k p q e. e) (record { each = λ k b. omega (arith, s .len) }) r h ∙ ap (added r) (s .holds .each r h)
+              ∙ rw (q r) (word-add-left 32 (f r) (v r));
         };
       }
     where
       added : ℕ → ℕ → ℕ
-      added r w = word 32 (w + scaled work (rows * d) by r)
+      added r w = word 32 (w + v r)
+
+-- ---- those of a column, after d depth counts
+abbrev pub Summed : List ℕ → ℕ → ℕ → ℕ → ℕ → ℕ → List ℕ → Type 0
+Summed work rows count from cols d = Summing count (columnSum work rows from cols d)
+
+module _ (work : List ℕ) (rows count from cols : ℕ) (few : count ≤ blockLimit) where
+  pub summed-none : Summed work rows count from cols 0 (replicate 64 0)
+  unfolding columnSum sumTo
+  summed-none = none-summed count few (columnSum work rows from cols 0) (λ r. refl)
+
+  -- a lane times the column's next word
+  pub summed-turn : (d : ℕ) {by : ℕ} {sums next : List ℕ} → Summed work rows count from cols d sums → by ≡ getD work (from + cols * d) 0
+      → next ≡ productsAdded count (scaled work (rows * d) by) sums → Summed work rows count from cols (d + 1) next
+  unfolding columnSum sumTo
+  summed-turn d {by} s q e =
+      one-more count few (columnSum work rows from cols d) (columnSum work rows from cols (d + 1)) (scaled work (rows * d) by) s e (λ r. rw (q, add-one))
+
+-- ---- those of row r along the columns, whose lanes begin at `behind`
+abbrev pub rowSums : List ℕ → ℕ → ℕ → ℕ → ℕ → ℕ → ℕ → ℕ
+rowSums work rows behind cols r d c = columnSum work rows (behind + c) cols d r
+
+module _ (work : List ℕ) (rows behind cols count r : ℕ) (few : count ≤ blockLimit) where
+  pub row-none : Summing count (rowSums work rows behind cols r 0) (replicate 64 0)
+  unfolding columnSum sumTo
+  row-none = none-summed count few (rowSums work rows behind cols r 0) (λ c. refl)
+
+  pub row-turn : (d : ℕ) {by : ℕ} {sums next : List ℕ} → Summing count (rowSums work rows behind cols r d) sums → by ≡ getD work (rows * d + r) 0
+      → next ≡ productsAdded count (scaled work (behind + cols * d) by) sums → Summing count (rowSums work rows behind cols r (d + 1)) next
+  unfolding columnSum sumTo
+  row-turn d {by} s q e =
+      one-more count few (rowSums work rows behind cols r d) (rowSums work rows behind cols r (d + 1)) (scaled work (behind + cols * d) by) s e
+      (λ c. let place : behind + cols * d + c ≡ behind + c + cols * d = omega arith in rw (q, add-one, place) (ap (λ (y : ℕ). rowSums work rows behind cols r d c + y) (mul-comm _ _)))

@@ -10,3 +10,10 @@ pub record Summable (rows count from cols depth size : ℕ) : Type 0 where
   pub few : count ≤ blockLimit  -- and its sum
   pub left : rows * depth ≤ size  -- packed A is inside
   pub right : Within depth (λ d. from + cols * d) size  -- the column's words of packed B are inside
+
+-- those of row r can be formed, for `count` columns whose lanes begin at `behind`
+pub record RowSummable (rows behind cols count r depth size : ℕ) : Type 0 where
+  pub fits : count ≤ cols  -- each column has its place in packed B's lanes
+  pub few : count ≤ blockLimit  -- and its sum
+  pub right : behind + cols * depth ≤ size  -- packed B is inside
+  pub left : Within depth (λ d. rows * d + r) size  -- the row's words of packed A are inside

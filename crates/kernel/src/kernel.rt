@@ -5,7 +5,7 @@ ghost use Rattle.words.specs.Words.{word};
 ghost use Rattle.words.specs.Loops.{Within};
 ghost use Rattle.limits.specs.Limits.{blockLimit};
 ghost use Rattle.kernel.specs.Kernel.{columnSum, ColumnSums};
-ghost use Rattle.kernel.specs.KernelNeeds.{Summable};
+ghost use Rattle.kernel.specs.KernelNeeds.{Summable, RowSummable};
 use lanes::lanes::add_scaled;
 use limits::limits::Limits;
 
@@ -85,4 +85,28 @@ pub fn column(
     } else {
         row_by_row(work, rows, count, from, cols, depth)
     }
+}
+
+// The sums of one row of a tile side by side, a sum for each of its `count` columns: packed B's lanes, `cols` words each from `behind` on, times the row's
+// words of packed A, one in each lane: `rows` apart from r on.
+pub fn row_lanes(
+    work: &[u32],
+    rows: usize,
+    behind: usize,
+    cols: usize,
+    count: usize,
+    r: usize,
+    depth: usize,
+) -> [u32; Limits::BLOCK]
+    requires { ⌜ RowSummable rows behind cols count r depth (length (now work)) ⌝ }
+    ensures { λ s. ⌜ ColumnSums count (λ c. columnSum (now (work .entry)) rows (behind + c) cols depth r) s ⌝ }
+{
+    let mut sums = [0u32; Limits::BLOCK];
+    let mut d: usize = 0;
+    while d < depth {
+        let by = work[rows * d + r];
+        add_scaled(&mut sums, work, behind + cols * d, count, by);
+        d += 1;
+    }
+    sums
 }

@@ -12,6 +12,7 @@ use columns::column_stores::Packing;
 use columns::column_stores::next_eight;
 use columns::column_stores::next_four;
 use columns::column_stores::store_one;
+use few_rows::few::few_rows;
 use kernel::kernel::column;
 use limits::limits::Limits;
 
@@ -75,5 +76,9 @@ pub fn multiply(
         columns: col.count,
         across,
     };
-    all_columns(work, d, &rows, &lengths, &columns, t, p, f);
+    if (t.rows <= 4) & (t.columns > 4) {
+        few_rows(work, d, &rows, &columns, t, p, f);
+    } else {
+        all_columns(work, d, &rows, &lengths, &columns, t, p, f);
+    }
 }

@@ -4,15 +4,20 @@
 use mathlib.Core.Path.{_≡_, refl, ap, sym, _∙_}
 use mathlib.Core.Bool.{Bool, true, false, cond, _&&_, and-false}
 use mathlib.Core.List.{List}
+use mathlib.Core.Logic.{_≢_, _⊎_, inl, inr}
 use Prim.Native.Nat.{ℕ, zero, suc, _+_, _-_, _*_, _/_, _%_, _<_, _≤_}
-use native.Mathlib.Nat.{mul-comm, mul-le-mul-left, le-div-iff-mul-le}
+use native.Mathlib.Nat.{mul-comm, mul-zero, mul-suc, mul-le-mul-left, le-div-iff-mul-le}
+use native.Mathlib.Decide.{ℕ-discrete}
 use native.Mathlib.Omega.{arith}
 use borrow.Author.Tests.{ltb-true, lt-ltb, le-ltb}
 use lib.Arith.{digits-div, digits-mod}
+use lib.Seq.{set-getD}
 use lib.Dec.{ltb}
-use lib.ListN.{length}
+use lib.ListN.{length, getD, set}
 use Rattle.words.specs.Fronts.{stored, front}
-use Rattle.words.proofs.Fronts.{stored-front}
+use Rattle.words.specs.Loops.{each, put}
+use Rattle.words.proofs.Store.{length-each, length-puts, puts-other, puts-at}
+use Rattle.words.proofs.Fronts.{front-none, stored-front, stored-ext}
 use Rattle.stretch.specs.StretchLanes.{lanesStored}
 use Rattle.stretch.proofs.StretchLanes.{lanes-more, lanes-ext, lanes-front}
 use Rattle.pack.specs.Packed.{packedWord}
@@ -96,3 +101,77 @@ module _ (width count filled : ℕ) (f : ℕ → ℕ → ℕ) (xs : List ℕ) wh
       wide : (w : ℕ) {i : ℕ} → i < w * depth - w * filled → 0 < w
       wide zero k = absurd (omega arith)
       wide (suc w) k = omega arith
+
+-- ---- words stored in lanes, place by place
+
+module _ (width n : ℕ) (v : ℕ → ℕ → ℕ) (to : ℕ) (xs : List ℕ) where
+  pub length-lanes : (m : ℕ) → length (lanesStored m n width v to xs) ≡ length xs
+  unfolding stored
+  length-lanes m = length-each m (λ q. stored n (v q) (to + width * q)) (λ q ys. length-puts (λ r. to + width * q + r) (λ r was. v q r) n ys) xs
+
+  -- a place in front of the lanes, or behind the last of them
+  pub lanes-other : (m i : ℕ) → n ≤ width → (i < to) ⊎ (to + width * m ≤ i) → getD (lanesStored m n width v to xs) i 0 ≡ getD xs i 0
+  unfolding each stored
+  lanes-other zero i narrow h = refl
+  lanes-other (suc m) i narrow h =
+      puts-other (λ r. to + width * m + r) (λ r was. v m r) n i (lanesStored m n width v to xs) (λ r b e. apart h r b e)
+      ∙ lanes-other m i narrow (before h)
+    where
+      apart : (i < to) ⊎ (to + width * suc m ≤ i) → (r : ℕ) → r < n → to + width * m + r ≢ i
+      apart (inl b) r c e = omega (arith, b, e)
+      apart (inr b) r c e = omega (arith, b, c, e, narrow, mul-suc width m)
+
+      before : (i < to) ⊎ (to + width * suc m ≤ i) → (i < to) ⊎ (to + width * m ≤ i)
+      before (inl b) = inl b
+      before (inr b) = inr (omega (arith, b, mul-suc width m))
+
+  -- place k of lane q
+  pub lanes-at : (m q k : ℕ) → n ≤ width → to + width * m ≤ length xs → q < m → k < n → getD (lanesStored m n width v to xs) (to + (width * q + k)) 0 ≡ v q k
+  unfolding each stored
+  lanes-at zero q k narrow room a b = absurd (omega (arith, a))
+  lanes-at (suc m) q k narrow room a b = go (ℕ-discrete q m) (λ c. lanes-at m q k narrow (omega (arith, mul-suc width m)) c b)
+    where
+      go : Dec (q ≡ m) → (q < m → getD (lanesStored m n width v to xs) (to + (width * q + k)) 0 ≡ v q k) → getD (stored n (v m) (to + width * m) (lanesStored m n width v to xs)) (to + (width * q + k)) 0 ≡ v q k
+      go (yes e) again =
+          let place : to + (width * q + k) ≡ to + width * m + k = rw e (omega arith) in
+          let inside : to + width * m + n ≤ length (lanesStored m n width v to xs) = omega (arith, mul-suc width m, length-lanes m) in
+          rw (place, e)
+          (puts-at (λ r. to + width * m + r) (λ r was. v m r) n (lanesStored m n width v to xs) (λ i j c d f. omega (arith, f)) (record { each = λ r c. omega arith }) k b)
+      go (no f) again =
+          let c : q < m = omega (arith, f) in
+          let below : width * q + width ≤ width * m = omega (arith, mul-le-mul-left width c, mul-suc width q) in
+          puts-other (λ r. to + width * m + r) (λ r was. v m r) n (to + (width * q + k)) (lanesStored m n width v to xs) (λ r d e. omega (arith, e, below, b, narrow))
+          ∙ again c
+
+-- ---- zeros past the edge of what is packed
+
+-- the words of a list stored where they stand
+stored-own : (n to : ℕ) (xs : List ℕ) → to + n ≤ length xs → stored n (λ r. getD xs (to + r) 0) to xs ≡ xs
+unfolding stored each put
+stored-own zero to xs h = refl
+stored-own (suc n) to xs h = rw (stored-own n to xs (omega arith)) (set-getD xs (to + n) 0)
+
+lanes-own : (width count m : ℕ) (v : ℕ → ℕ → ℕ) (to : ℕ) (xs : List ℕ) → count ≤ width → width * m ≤ length xs → to ≡ 0
+    → ((q r : ℕ) → v q r ≡ getD xs (width * q + r) 0) → lanesStored m count width v to xs ≡ xs
+unfolding each
+lanes-own width count zero v to xs narrow h z e = refl
+lanes-own width count (suc m) v to xs narrow h z e =
+    let fits : width * m + width ≤ length xs = omega (arith, mul-suc width m) in
+    let place : to + width * m ≡ width * m = omega arith in
+    rw (lanes-own width count m v to xs narrow (omega arith) z e, place)
+    (stored-ext count (v m) (λ r. getD xs (width * m + r) 0) (width * m) xs (λ r b. e m r) ∙ stored-own count (width * m) xs (omega arith))
+
+-- zeros behind the first `count` places of the first lanes, and in the lanes behind those
+pub packed-own : (width count filled depth : ℕ) (xs : List ℕ) {lanes after : List ℕ} → count ≤ width → filled ≤ depth → width * depth ≤ length xs
+    → lanes ≡ lanesStored filled (width - count) width (λ q r. 0) count xs → after ≡ stored (width * depth - width * filled) (λ r. 0) (width * filled) lanes
+    → after ≡ front (width * depth) (packedWord width count filled (λ n d. getD xs (width * d + n) 0)) xs
+packed-own width count filled depth xs {lanes} narrow h fits e q =
+    let f : ℕ → ℕ → ℕ = λ n d. getD xs (width * d + n) 0 in
+    let inside : width * filled ≤ length xs = omega (arith, mul-le-mul-left width h) in
+    let none : xs ≡ packed width count filled f xs 0 = sym (ap (λ (n : ℕ). front n (packedWord width count filled f) xs) (mul-zero width) ∙ front-none (packedWord width count filled f) xs) in
+    let all : 0 + filled ≡ filled = omega arith in
+    let whole : lanes ≡ packed width count filled f xs (0 + filled) =
+    packed-band width count filled f xs 0 filled narrow (omega arith) (rw all inside) none
+    (sym (lanes-own width count filled (λ q r. f r (0 + q)) (width * 0) xs narrow inside (mul-zero width) (λ q r. ap (f r) (omega arith))))
+    (e ∙ ap (λ (x : ℕ). lanesStored filled (width - count) width (λ q r. 0) x xs) (omega (arith, mul-zero width))) in
+    packed-rest width count filled f xs depth h fits (rw all at whole) q

@@ -23,11 +23,10 @@ pub record BandIn (starts : List ℕ) (d m : ℕ) (offsets lengths : List ℕ) (
 pub record PlacesAt (starts : List ℕ) (n : ℕ) (offsets : List ℕ) (count size : ℕ) : Type 0 where
   pub each : (d : ℕ) → d < n → Within count (placeOf (getD starts d 0) offsets) size
 
--- a block can be packed: read from a slice of `src` words, written to one of `out` words
-pub record Packable (starts : List ℕ) (filled : ℕ) (block : Block) (width depth src out : ℕ) : Type 0 where
+-- a block can be packed in the first `filled` lanes: read from a slice of `src` words, written to one of `out` words
+pub record Packable (starts : List ℕ) (filled : ℕ) (block : Block) (width src out : ℕ) : Type 0 where
   pub lane : InLane width (block .count)
   pub measured : Measured (block .count) (block .offsets) (block .lengths)  -- the lengths are those of the offsets
-  pub lanes : filled ≤ depth  -- no more lanes are filled than there are
-  pub shallow : depth ≤ depthLimit  -- there is a start for each lane
+  pub lanes : filled ≤ depthLimit  -- there is a start for each lane
   pub reads : PlacesAt starts filled (block .offsets) (block .count) src  -- all that is read is inside
-  pub room : width * depth ≤ out  -- the packed block is inside
+  pub room : width * filled ≤ out  -- the lanes are inside

@@ -1,10 +1,8 @@
 ghost use mathlib.Core.Path.{_≡_};
-ghost use Prim.Native.Nat.{_+_, _-_, _*_, _<_, _≤_};
+ghost use Prim.Native.Nat.{_+_, _*_, _<_, _≤_};
 ghost use lib.ListN.{length, getD};
-ghost use Rattle.words.specs.Fronts.{stored, front};
 ghost use Rattle.block.specs.Places.{placeOf};
-ghost use Rattle.stretch.specs.StretchLanes.{lanesStored, LanesRoom};
-ghost use Rattle.pack.specs.Packed.{packedWord};
+ghost use Rattle.stretch.specs.StretchLanes.{lanesStored};
 ghost use Rattle.pack.specs.PackNeeds.{BandIn, Packable};
 use block::block::Block;
 use block::block::step_at;
@@ -40,31 +38,6 @@ fn pack_band(
     }
 }
 
-// Zeros from `to` up to `end`.
-fn clear(out: &mut [u32], to: usize, end: usize)
-    requires { ⌜ (to ≤ end) × (end ≤ length (now out)) ⌝ }
-    ensures { λ _. ⌜ now (out .exit) ≡ stored (end - to) (λ r. 0) to (now (out .entry)) ⌝ }
-{
-    let mut x = to;
-    while x < end {
-        out[x] = 0;
-        x += 1;
-    }
-}
-
-// n zeros in each of m lanes, from place `to` of the first on.
-fn clear_band(out: &mut [u32], to: usize, n: usize, width: usize, m: usize)
-    requires { ⌜ LanesRoom m n width to (length (now out)) ⌝ }
-    ensures { λ _. ⌜ now (out .exit) ≡ lanesStored m n width (λ q r. 0) to (now (out .entry)) ⌝ }
-{
-    let mut q: usize = 0;
-    while q < m {
-        let at = to + width * q;
-        clear(out, at, at + n);
-        q += 1;
-    }
-}
-
 // How many of the lanes that are left make a band: enough that the set-up of a stretch does not count, and few enough that what they read stays near.
 fn band(left: usize) -> usize
     ensures { λ r. ⌜ (r ≤ left) × (0 < left → 0 < r) ⌝ }
@@ -72,23 +45,21 @@ fn band(left: usize) -> usize
     if left < 16 { left } else { 16 }
 }
 
-// A packed block: place n of lane d at n + width × d, and 0 past the edge. `starts` has where the block begins at each of the first `filled` depth counts.
-// It is packed a band of lanes at a time, each stretch in all lanes of the band.
+// A block packed in the first `filled` lanes: place n of lane d at n + width × d. `starts` has where the block begins at each of these depth counts.
+// It is packed a band of lanes at a time, each stretch in all lanes of the band. What lies past the edge is left as it is.
 pub fn pack(
     src: &[u32],
     starts: &[u64; Limits::DEPTH],
     filled: usize,
     block: Block,
     width: usize,
-    depth: usize,
     out: &mut [u32],
 )
-    requires { ⌜ Packable (now starts) filled block width depth (length (now src)) (length (now out)) ⌝ }
+    requires { ⌜ Packable (now starts) filled block width (length (now src)) (length (now out)) ⌝ }
     ensures { λ _. ⌜ now (out .exit)
-        ≡ front (width * depth)
-        (packedWord width (block .count) filled
-        (λ n d. getD (now (src .entry)) (placeOf (getD (now (starts .entry)) d 0) (block .offsets) n) 0))
-        (now (out .entry)) ⌝ }
+        ≡ lanesStored filled (block .count) width
+        (λ d n. getD (now (src .entry)) (placeOf (getD (now (starts .entry)) d 0) (block .offsets) n) 0)
+        0 (now (out .entry)) ⌝ }
 {
     let offsets = block.offsets;
     let lengths = block.lengths;
@@ -96,7 +67,6 @@ pub fn pack(
     let mut d: usize = 0;
     while d < filled {
         let m = band(filled - d);
-        let lane = width * d;
         pack_band(
             src,
             starts,
@@ -107,10 +77,8 @@ pub fn pack(
             count,
             width,
             out,
-            lane,
+            width * d,
         );
-        clear_band(out, lane + count, width - count, width, m);
         d += m;
     }
-    clear(out, width * filled, width * depth);
 }

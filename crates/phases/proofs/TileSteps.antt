@@ -15,20 +15,11 @@ use Rattle.words.specs.Sums.{sumTo}
 use Rattle.words.proofs.Modular.{word-add-right, word-mul-right}
 use Rattle.words.proofs.Loops.{each-ext}
 use Rattle.words.proofs.Sums.{sumTo-ext}
-use Rattle.words.specs.Fronts.{front}
-use Rattle.words.proofs.Fronts.{front-ext}
 use Rattle.limits.specs.Limits.{blockLimit}
 use Rattle.contraction.specs.Operands.{Operand, C, D}
-use Rattle.groups.specs.Groups.{depth}
-use Rattle.groups.specs.Held.{labelsIn}
 use Rattle.plan.specs.declared.plan.Plan.{Plan}
-use Rattle.plan.specs.Plan.{planned}
 use Rattle.block.specs.declared.block.Block.{Block}
 use Rattle.block.specs.Places.{placeOf, asStep, InLane, PlacesIn}
-use Rattle.scatter.specs.ScatterVectors.{Blocked}
-use Rattle.pack.specs.PackNeeds.{Packable}
-use Rattle.pack.specs.Packed.{packedWord}
-use Rattle.pack.proofs.Packing.{packed-ext}
 use Rattle.kernel.specs.Kernel.{columnSum}
 use Rattle.accumulate.specs.declared.accumulate.Factors.{Factors}
 use Rattle.accumulate.specs.Added.{addedTo}
@@ -46,63 +37,15 @@ use Rattle.tiles.proofs.Cuts.{width-le, place-in, panel-width}
 use Rattle.tile_blocks.specs.Side.{Side, left, right, tensorOn, groupOn, sizeOn, tileOn}
 use Rattle.tile_blocks.specs.Planned.{atBatch, placeIn, placeOut, planSetting}
 use Rattle.tile_blocks.specs.TilePlaces.{blockIn, Begins, Starts}
-use Rattle.phases.specs.Phases.{packs, sideWidth, panelWidth, SideClear, packedSide, OutputClear, fromC, PackedIn}
-
--- the code's block of a side's counts in a tensor
-abbrev SideBlock : Plan → Cut → Tile → Operand → Side → Block → Type 0
-SideBlock p G x o s = Blocked o (labelsIn (planned p (groupOn s))) (blockIn x s * tileOn G s) (sideWidth G x s)
-
--- no lane is wider than a block can be
-narrow : (s : Side) {G : Cut} → Fits G → tileOn G s ≤ blockLimit
-narrow left f = f .rows-few
-narrow right f = f .cols-few
+use Rattle.tile_packs.specs.TilePacks.{packs, sideWidth, panelWidth}
+use Rattle.tile_packs.proofs.SideBlocks.{SideBlock, in-lane, count-in}
+use Rattle.phases.specs.Phases.{OutputClear, fromC, PackedIn}
 
 -- the packed tile's sizes, as the kernel gets them
 abbrev packing : Cut → ℕ → Packing
 packing G filled = record { rows = G .rows; cols = G .cols; depth = G .depth; filled = filled }
 
 module _ (p : Plan) (G : Cut) (x : Tile) where
-  -- a block has a place for each of its counts
-  in-lane : (s : Side) {o : Operand} {b : Block} → SideBlock p G x o s b → Fits G → InLane (tileOn G s) (b .count)
-  in-lane s r f = record { fits = rw (r .used) (width-le (sizeOn G s) (tileOn G s) (blockIn x s)); narrow = narrow s f }
-
-  -- its counts are the group's
-  count-in : (s : Side) {o : Operand} {b : Block} → SideBlock p G x o s b → {l : ℕ} → l < b .count → blockIn x s * tileOn G s + l < sizeOn G s
-  count-in s r h = place-in (sizeOn G s) (tileOn G s) (blockIn x s) (rw (r .used) at h)
-
-  -- ---- a side's block is packed
-  module _ (s : Side) {b : Block} (r : SideBlock p G x (tensorOn s) s b) {from : ℕ} (e : from ≡ atBatch p (x .batch) (tensorOn s))
-      {starts : List ℕ} {filled : ℕ} (f : filled ≡ panelWidth G x) (t : Starts (tensorOn s) from (labelsIn (planned p depth)) (x .panel * G .depth) filled starts) where
-    place-at : (l k : ℕ) → l < b .count → k < filled
-        → placeOf (getD starts k 0) (b .offsets) l ≡ placeIn p s (x .batch) (blockIn x s * tileOn G s + l) (x .panel * G .depth + k)
-    unfolding placeIn
-    place-at l k h m = rw (t .each k m, r .offsets l (rw (r .used) at h), e)
-
-    pub side-packable : {src out : ℕ} → Fits G → Begins G x → SideClear p G s src out → Packable starts filled b (tileOn G s) (G .depth) src out
-    side-packable fits begins clear =
-        record {
-          lane = in-lane s r fits;
-          measured = rw (r .used) (r .lengths);
-          lanes = rw f (width-le (G .K) (G .depth) (x .panel));
-          shallow = fits .depth-few;
-          reads =
-              record {
-                each = λ k h. record {
-                  each = λ l m. rw (place-at l k m h) (clear .reads _ _ _ (begins .batch) (count-in s r m) (place-in (G .K) (G .depth) (x .panel) (rw f at h)));
-                };
-              };
-          room = clear .room;
-        }
-
-    pub side-packed : (src out : List ℕ) {after : List ℕ}
-        → after ≡ front (tileOn G s * G .depth) (packedWord (tileOn G s) (b .count) filled (λ l k. getD src (placeOf (getD starts k 0) (b .offsets) l) 0)) out
-        → after ≡ packedSide p G x s src out
-    unfolding packedSide
-    side-packed src out q =
-        q
-        ∙ front-ext (tileOn G s * G .depth) out
-        (λ y h. packed-ext (tileOn G s) (b .count) filled (λ l k h m. ap (λ (z : ℕ). getD src z 0) (place-at l k h m)) y ∙ rw (r .used, f))
-
   -- ---- a tile of an output tensor
   module _ (o : Operand) {rows cols : Block} (r : SideBlock p G x o left rows) (c : SideBlock p G x o right cols) {from : ℕ} (e : from ≡ atBatch p (x .batch) o) where
     place-out : (i j : ℕ) → i < rows .count → j < cols .count
@@ -113,7 +56,7 @@ module _ (p : Plan) (G : Cut) (x : Tile) where
     places-in : {n : ℕ} → Begins G x → OutputClear p G o n → PlacesIn from (cols .offsets) (cols .count) (rows .offsets) (rows .count) n
     places-in begins clear =
         record {
-          each = λ j h. record { each = λ i m. rw (place-out i j m h) (clear .inside _ _ _ (begins .batch) (count-in left r m) (count-in right c h)) };
+          each = λ j h. record { each = λ i m. rw (place-out i j m h) (clear .inside _ _ _ (begins .batch) (count-in p G x left r m) (count-in p G x right c h)) };
         }
 
   -- ---- C's words are put at D's places
@@ -131,7 +74,7 @@ module _ (p : Plan) (G : Cut) (x : Tile) where
         }
       where
         in-block : (s : Side) {b : Block} → SideBlock p G x D s b → Fits G → b .count ≤ blockLimit
-        in-block s k fits = le-trans (in-lane s k fits .fits) (in-lane s k fits .narrow)
+        in-block s k fits = le-trans (in-lane p G x s k fits .fits) (in-lane p G x s k fits .narrow)
 
     pub copied : (words d : List ℕ) {after : List ℕ} → after ≡ each (across .count) (columnCopied words from rows cols to down across) d → after ≡ fromC p G x words d
     unfolding tileAt
@@ -151,8 +94,8 @@ module _ (p : Plan) (G : Cut) (x : Tile) where
         → Multipliable from (rows .offsets) (rows .lengths) (rows .count) (cols .offsets) (cols .count) (asStep (cols .step)) (packing G filled) d work
     multipliable fits begins clear room =
         record {
-          row = in-lane left r fits;
-          column = in-lane right c fits;
+          row = in-lane p G x left r fits;
+          column = in-lane p G x right c fits;
           measured = rw (r .used) (r .lengths);
           stepped = rw (c .used) (c .step);
           lanes = rw f (width-le (G .K) (G .depth) (x .panel));
@@ -176,8 +119,9 @@ module _ (p : Plan) (G : Cut) (x : Tile) where
       tile-sum i j h l =
           ap (λ (m : ℕ). sumTo m (λ d. getD work (G .rows * d + i) 0 * getD work (G .rows * G .depth + j + G .cols * d) 0)) (f ∙ sym (panel-width G (x .panel)))
           ∙ sumTo-ext _ (λ d k. let m : d < panelWidth G x = rw (panel-width G (x .panel)) at k in
+          let front : G .rows * d + i ≡ 0 + (G .rows * d + i) = omega arith in
           let behind : G .rows * G .depth + j + G .cols * d ≡ G .rows * G .depth + (G .cols * d + j) = omega arith in
-          rw (behind, w .each left i d h m, w .each right j d l m))
+          rw (ap (λ (y : ℕ). getD work y 0) front ∙ w .each left i d h m, ap (λ (y : ℕ). getD work y 0) behind ∙ w .each right j d l m))
 
       -- what becomes of a word: to reduce the sum first changes nothing
       word-added : (i j : ℕ) → i < sideWidth G x left → j < sideWidth G x right → (v : ℕ)

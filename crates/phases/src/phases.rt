@@ -5,85 +5,20 @@ ghost use Prim.Native.Nat.{_≤_};
 ghost use Rattle.contraction.specs.Operands.{C, D};
 ghost use Rattle.tiles.specs.Grid.{cutIn};
 ghost use Rattle.tile_blocks.specs.Planned.{GridOf};
-ghost use Rattle.tile_blocks.specs.Side.{left, right};
 ghost use Rattle.tile_blocks.specs.TilePlaces.{Begins};
-ghost use Rattle.phases.specs.Phases.{packs, SideClear, packedSide, OutputClear, fromC, begun, Multiplied};
+ghost use Rattle.tile_packs.specs.TilePacks.{packs};
+ghost use Rattle.phases.specs.Phases.{OutputClear, fromC, begun, Multiplied};
 use accumulate::accumulate::Factors;
 use columns::column_stores::Packing;
 use contraction::contraction::Contraction;
 use copy::copy::copy_tile;
-use limits::limits::Limits;
 use multiply::multiply::multiply;
-use pack::pack::pack;
 use plan::plan::Plan;
 use tile_blocks::tile_places::at_batch;
 use tile_blocks::tile_places::cut_block;
-use tile_blocks::tile_places::panel_starts;
 use tiles::grid::Grid;
 use tiles::grid::Tile;
 use tiles::grid::width_of;
-
-// The first phase: A's block is packed, a lane of rows for each depth count.
-pub fn pack_a(p: Plan, g: Grid, at: Tile, a: &[u32], work: &mut [u32])
-    requires { ⌜ GridOf p g × Begins (cutIn g) at × SideClear p (cutIn g) left (length (now a)) (length (now work)) ⌝ }
-    ensures { λ _. ⌜ now (work .exit) ≡ packedSide p (cutIn g) at left (now (a .entry)) (now (work .entry)) ⌝ }
-{
-    let o = Contraction::A;
-    let counts = g.counts;
-    let sizes = g.sizes;
-    let rows = cut_block(p.groups.row, o, counts.row, sizes.rows, at.row);
-    let from = at_batch(p.base, p.groups.batch, o, at.batch);
-    let mut starts = [0u64; Limits::DEPTH];
-    let filled = panel_starts(
-        p.groups.depth,
-        o,
-        from,
-        counts.depth,
-        sizes.depth,
-        at.panel,
-        &mut starts,
-    );
-    pack(
-        a,
-        &starts,
-        filled,
-        rows,
-        sizes.rows as usize,
-        sizes.depth as usize,
-        work,
-    );
-}
-
-// The second phase: B's block is packed, a lane of columns for each depth count.
-pub fn pack_b(p: Plan, g: Grid, at: Tile, b: &[u32], work: &mut [u32])
-    requires { ⌜ GridOf p g × Begins (cutIn g) at × SideClear p (cutIn g) right (length (now b)) (length (now work)) ⌝ }
-    ensures { λ _. ⌜ now (work .exit) ≡ packedSide p (cutIn g) at right (now (b .entry)) (now (work .entry)) ⌝ }
-{
-    let o = Contraction::B;
-    let counts = g.counts;
-    let sizes = g.sizes;
-    let columns = cut_block(p.groups.column, o, counts.column, sizes.cols, at.column);
-    let from = at_batch(p.base, p.groups.batch, o, at.batch);
-    let mut starts = [0u64; Limits::DEPTH];
-    let filled = panel_starts(
-        p.groups.depth,
-        o,
-        from,
-        counts.depth,
-        sizes.depth,
-        at.panel,
-        &mut starts,
-    );
-    pack(
-        b,
-        &starts,
-        filled,
-        columns,
-        sizes.cols as usize,
-        sizes.depth as usize,
-        work,
-    );
-}
 
 // The words of C in a tile, put at the tile's places in D.
 fn copy_c(p: Plan, g: Grid, at: Tile, c: &[u32], d: &mut [u32])

@@ -1,6 +1,7 @@
 ghost use mathlib.Core.Path.{_≡_};
-ghost use Prim.Native.Nat.{_<_, _≤_};
+ghost use Prim.Native.Nat.{_+_, _<_, _≤_};
 ghost use lib.ListN.{length};
+ghost use Rattle.limits.specs.Limits.{depthLimit};
 ghost use Rattle.stretch.specs.StretchLanes.{stretchStored, StretchIn};
 use lane_words::lane_words::pack_words;
 use limits::limits::Limits;
@@ -63,7 +64,20 @@ fn pack_by_two(
     }
 }
 
-// The same: a short stretch two places at a time in all lanes, since a loop along it would not pay; a long one lane by lane.
+// Do the lanes begin one word apart, and the places of a stretch far apart? Lane by lane each word that is read would then be in a line of the cache that is
+// needed again only in the next lane.
+fn along_depth(starts: &[u64; Limits::DEPTH], d: usize, m: usize, step: u64) -> bool
+    requires { ⌜ d + m ≤ depthLimit ⌝ }
+{
+    if m < 2 {
+        return false;
+    }
+    let apart = std::num::wrapping_sub_u64(starts[d + 1], starts[d]);
+    (apart == 1) & (std::num::wrapping_add_u64(step, 64) > 128)
+}
+
+// The same: two places at a time in all lanes where the stretch is short, since a loop along it would not pay, or where the lanes lie nearer; else lane by
+// lane.
 pub fn pack_stretch(
     src: &[u32],
     starts: &[u64; Limits::DEPTH],
@@ -79,7 +93,7 @@ pub fn pack_stretch(
     requires { ⌜ StretchIn (now starts) d m offset step n width to (length (now src)) (length (now out)) ⌝ }
     ensures { λ _. ⌜ now (out .exit) ≡ stretchStored m n width (now (src .entry)) (now (starts .entry)) d offset step to (now (out .entry)) ⌝ }
 {
-    if n < 8 {
+    if (n < 8) | along_depth(starts, d, m, step) {
         pack_by_two(src, starts, d, m, offset, step, n, width, out, to);
     } else {
         pack_lanes(src, starts, d, m, offset, step, n, width, out, to);

@@ -1,3 +1,4 @@
+pub mod HeldBlocks
 pub mod PackedWork
 pub mod TilePhases
 pub mod WorkCases

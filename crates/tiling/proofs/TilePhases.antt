@@ -1,15 +1,13 @@
--- The phases of the tile of a number: the two packs leave its blocks in the work slice, and there is what the product asks of them. To put C's words in D first
--- comes to sums that start from them.
+-- The phases of the tile of a number: where the work slice holds its blocks, there is what the product asks of them. To put C's words in D first comes to sums that
+-- start from them.
 -- Assumes nothing.
 use mathlib.Core.Path.{_≡_, refl, sym, ap, _∙_}
 use mathlib.Core.Bool.{Bool, true, false, cond}
 use mathlib.Core.List.{List, []}
-use Prim.Native.Nat.{ℕ, _-_, _*_, _≤_, _<_}
+use Prim.Native.Nat.{ℕ, _<_}
 use lib.Dec.{eqb}
 use lib.ListN.{length, getD}
-use borrow.Rule.Slice.PartMut.{midOf, putMid}
 use Rattle.words.specs.Loops.{put}
-use Rattle.words.specs.Fronts.{front}
 use Rattle.contraction.specs.Operands.{C, D}
 use Rattle.plan.specs.declared.plan.Plan.{Plan}
 use Rattle.tiles.specs.declared.grid.Tile.{Tile}
@@ -19,49 +17,28 @@ use Rattle.tiles.specs.TileWalk.{visitTile, OwnPlaces}
 use Rattle.tiles.specs.Setting.{panelSum, addPanel, tileStep}
 use Rattle.tiles.proofs.Visits.{visit-same}
 use Rattle.tiles.proofs.Closed.{twice}
-use Rattle.tile_blocks.specs.Side.{Side, left, right, both, tileOn}
-use Rattle.tile_blocks.specs.Planned.{placeOut, readIn, planSetting}
-use Rattle.phases.specs.Phases.{packs, packedSide, PackedIn, fromC, begun, Multiplied}
-use Rattle.tiling.specs.Work.{packedBlock, packed}
-use Rattle.tiling.proofs.PackedWork.{two-fronts, part-room, packed-entry}
+use Rattle.tile_blocks.specs.Side.{Side, left, right}
+use Rattle.tile_blocks.specs.Planned.{placeOut, planSetting}
+use Rattle.phases.specs.Phases.{PackedIn, fromC, begun, Multiplied}
+use Rattle.tiling.specs.HeldPacks.{Holds}
 
 module _ (p : Plan) {G : Cut} {n : ℕ} {x : Tile} (t : TileOf G n x) (a b : List ℕ) where
-  -- a side's block by the tile's counts is that of its number
-  side-block : (s : Side) (out : List ℕ) → packedSide p G x s (both a b s) out ≡ front (tileOn G s * G .depth) (packedBlock G (readIn p a b) s n) out
-  unfolding packedSide packedBlock
-  side-block left out = rw (t .batch, t .row, t .panel)
-  side-block right out = rw (t .batch, t .column, t .panel)
-
-  -- B's block has room behind A's
-  pub room-behind : (work : List ℕ) {ys : List ℕ} → ys ≡ packedSide p G x left a work → packs G ≤ length work
-      → G .cols * G .depth ≤ length (midOf (G .rows * G .depth) (length ys - G .rows * G .depth) ys)
-  room-behind work e = part-room (G .rows * G .depth) (G .cols * G .depth) (packedBlock G (readIn p a b) left n) work (e ∙ side-block left work)
-
-  -- the work slice after the two packs: A's block, and then B's in the part behind it
-  pub tile-packed : (work : List ℕ) {ys part : List ℕ} → ys ≡ packedSide p G x left a work
-      → part ≡ packedSide p G x right b (midOf (G .rows * G .depth) (length ys - G .rows * G .depth) ys)
-      → putMid (G .rows * G .depth) (length ys - G .rows * G .depth) ys part ≡ packed G (readIn p a b) n work
-  unfolding packed
-  tile-packed work e q =
-      two-fronts (G .rows * G .depth) (G .cols * G .depth) (packedBlock G (readIn p a b) left n) (packedBlock G (readIn p a b) right n) work
-      (e ∙ side-block left work) (q ∙ side-block right _)
-
-  -- there each word is an entry at the tile's counts
-  pub packed-in : (work : List ℕ) {w : List ℕ} → w ≡ packed G (readIn p a b) n work → PackedIn p G x a b w
-  packed-in work e =
+  -- what the work slice holds is what the product asks of it
+  packed-in : {w : List ℕ} → ((s : Side) → Holds p G a b s n w) → PackedIn p G x a b w
+  packed-in h =
       record {
         each =
             elim [
-              | left ↦ (λ l d. rw (e, t .batch, t .row, t .panel) (λ h k. packed-entry G (readIn p a b) left n l d work h k _ refl))
-              | right ↦ (λ l d. rw (e, t .batch, t .column, t .panel) (λ h k. packed-entry G (readIn p a b) right n l d work h k _ refl))
+              | left ↦ (λ l d. rw (t .batch, t .row, t .panel) (h left .each l d))
+              | right ↦ (λ l d. rw (t .batch, t .column, t .panel) (h right .each l d))
             ];
       }
 
   -- so that D's words are those that the tile of the number leaves
-  pub tile-stepped : {alpha beta : ℕ} {w before after : List ℕ} (work : List ℕ) → w ≡ packed G (readIn p a b) n work → Multiplied p G x alpha beta w before after
+  pub tile-stepped : {alpha beta : ℕ} {w before after : List ℕ} → ((s : Side) → Holds p G a b s n w) → Multiplied p G x alpha beta w before after
       → after ≡ tileStep (planSetting p G false alpha beta a b []) n before
   unfolding visitTile planSetting
-  tile-stepped work e m = m .tile a b (packed-in work e) ∙ rw (t .batch, t .column, t .panel, t .row)
+  tile-stepped h m = m .tile a b (packed-in h) ∙ rw (t .batch, t .column, t .panel, t .row)
 
 -- where C is named, its words are put at the tile's places before the first panel, so that each sum starts from its word; a later panel only adds
 module _ (p : Plan) {G : Cut} {n : ℕ} {x : Tile} (t : TileOf G n x) (below : n < total G) (alpha beta : ℕ) (a b c d : List ℕ) (own : OwnPlaces G (placeOut p D) (length d)) where

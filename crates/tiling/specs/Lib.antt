@@ -1,2 +1,3 @@
+pub mod HeldPacks
 pub mod Work
 pub mod WorkCases

@@ -8,9 +8,11 @@ ghost use Rattle.tile_blocks.specs.Planned.{GridOf, Clear, readIn, planSetting}
 ghost use Rattle.tiling.specs.Work.{packedLast};
 use super::tile::run_tile;
 use plan::plan::Plan;
+use tile_packs::packs::pad_blocks;
 use tiles::grid::Grid;
 
-// The tiles from number `done` on, `count` of them; the new count of tiles done.
+// The tiles from number `done` on, `count` of them; the new count of tiles done. The zeros past the edges of the packed blocks are seen only after the call, so
+// that they are written after its last tile.
 pub fn run_tiles(
     p: Plan,
     g: Grid,
@@ -37,8 +39,11 @@ pub fn run_tiles(
     let end = done + count;
     let mut t = done;
     while t < end {
-        run_tile(p, g, named, alpha, beta, a, b, c, d, work, t);
+        run_tile(p, g, named, alpha, beta, a, b, c, d, work, t, t > done);
         t += 1;
+    }
+    if count > 0 {
+        pad_blocks(g, g.tile(end - 1), work);
     }
     t
 }

@@ -55,7 +55,7 @@ fn pace(turns: u32, repeats: u32) -> Pace {
 fn large_matrices() -> Case {
     Case {
         over_odometer: Some(4.5),
-        over_nest: Some(0.63),
+        over_nest: Some(0.72),
         ..Case::new("512×512×512", shapes::matrices(512, 512, 512), nests::matrices::<32, 16, 512, 512, 4>, pace(25, 1))
     }
 }

@@ -1,25 +1,35 @@
--- `run_tiles` meets its contract. The invariant: from `done` to t each tile was run, so D's words are those that they leave, one after the other,
--- and the work slice holds the blocks of the last one. A turn runs tile t. The measure is how many are left.
+-- `run_tiles` meets its contract. The invariant: from `done` to t each tile was run, so D's words are those that they leave, one after the other; the work slice is
+-- as it was at first, and after a tile it holds that one's blocks and the words behind them are as they were. A turn runs tile t; the measure is how many are left.
+-- Zeros past the edges then make these the packed blocks of the last tile.
 -- Assumes nothing.
-use mathlib.Core.Path.{_≡_, ap, sym, _∙_, subst}
-use mathlib.Core.Bool.{Bool}
+use mathlib.Core.Path.{_≡_, refl, ap, sym, _∙_, subst}
+use mathlib.Core.Bool.{Bool, true}
 use mathlib.Core.List.{List, [], _∷_, _++_}
-use Prim.Native.Nat.{ℕ, suc, _+_, _-_, _≤_}
+use Prim.Native.Nat.{ℕ, suc, _+_, _-_, _<_, _≤_}
+use native.Mathlib.Decide.{decLt}
 use native.Mathlib.Omega.{arith}
-use lib.ListN.{length}
+use lib.Dec.{ltb}
+use lib.ListN.{length, getD}
+use borrow.Author.Needs.{needs}
+use borrow.Author.Tests.{ltb-true}
+use denote.Ref.{now}
 use Rattle.words.proofs.Tabulate.{length-tabulate}
 use Rattle.plan.specs.declared.plan.Plan.{Plan}
+use Rattle.tiles.specs.declared.grid.Tile.{Tile}
 use Rattle.tiles.specs.Cut.{Cut}
-use Rattle.tiles.specs.Grid.{cutIn}
+use Rattle.tiles.specs.Grid.{cutIn, TileOf}
 use Rattle.tiles.specs.TileWalk.{walkTiles}
 use Rattle.tiles.specs.Setting.{Setting, visit, tileStep, walk, tilesFrom}
 use Rattle.tiles.proofs.Sizes.{sumOf-small}
 use Rattle.tiles.proofs.Visits.{tiles-next, walk-next}
 use Rattle.tiles.proofs.Closed.{length-walk}
 use Rattle.tile_blocks.specs.Planned.{readIn, planSetting, Clear}
-use Rattle.tiling.specs.Work.{packed, packedLast}
-use Rattle.phases.specs.Phases.{packs}
-use Rattle.tiling.proofs.PackedWork.{packed-next, length-last}
+use Rattle.tile_blocks.specs.Side.{right}
+use Rattle.tile_blocks.proofs.TileParts.{tile-begins}
+use Rattle.tile_packs.specs.TilePacks.{packs, padded}
+use Rattle.tiling.specs.Work.{packedLast}
+use Rattle.tiling.specs.HeldPacks.{Holds, HeldAfter}
+use Rattle.tiling.proofs.PackedWork.{packed-end, padded-packed}
 use Rattle.tiling.proofs.run_tiles.run_tiles.Statement.{statement}
 use Rattle.tiling.proofs.run_tiles.run_tiles.Tie as tie
 
@@ -31,35 +41,56 @@ module _ (p : Plan) (G : Cut) (named : Bool) (alpha beta : ℕ) (a b c : List �
   record Run (t : ℕ) (d work : List ℕ) : Type 0 where
     from : done ≤ t
     words : d ≡ walk S (tilesFrom done (t - done)) d₀
-    blocks : work ≡ packedLast G (readIn p a b) (tilesFrom done (t - done)) work₀
+    size : length work ≡ length work₀
+    untouched : t ≡ done → work ≡ work₀
+    held : done < t → HeldAfter p G a b (t - 1) work₀ work
 
   same-d : {t : ℕ} {d work : List ℕ} → Run t d work → length d ≡ length d₀
   same-d {t} r = ap length (r .words) ∙ length-walk S (tilesFrom done (t - done)) d₀
 
-  same-work : {t : ℕ} {d work : List ℕ} → packs G ≤ length work₀ → Run t d work → length work ≡ length work₀
-  same-work {t} h r = ap length (r .blocks) ∙ length-last G (readIn p a b) (tilesFrom done (t - done)) work₀ h
-
   none : Run done d₀ work₀
-  unfolding tilesFrom walkTiles packedLast
+  unfolding tilesFrom walkTiles
   none =
       let e : done - done ≡ 0 = omega arith in
-      record { from = omega arith; words = rw e; blocks = rw e }
+      record { from = omega arith; words = rw e; size = refl; untouched = λ k. refl; held = λ k. absurd (omega (arith, k)) }
 
-  next : {t : ℕ} {d work d′ work′ : List ℕ} → Run t d work → d′ ≡ tileStep S t d → work′ ≡ packed G (readIn p a b) t work → Run (t + 1) d′ work′
-  next {t} r e f =
-      let n = t - done in
-      let h : done + n ≡ t = omega (arith, r .from) in
-      let k : t + 1 - done ≡ suc n = omega (arith, r .from) in
-      let more : tilesFrom done (t + 1 - done) ≡ tilesFrom done n ++ t ∷ []
-      = ap (tilesFrom done) k ∙ tiles-next done n ∙ ap (λ (m : ℕ). tilesFrom done n ++ m ∷ []) h in
+  -- the list of tiles, one more
+  more : (t : ℕ) → done ≤ t → tilesFrom done (t + 1 - done) ≡ tilesFrom done (t - done) ++ t ∷ []
+  more t h =
+      let k : t + 1 - done ≡ suc (t - done) = omega arith in
+      ap (tilesFrom done) k ∙ tiles-next done (t - done) ∙ ap (λ (m : ℕ). tilesFrom done (t - done) ++ m ∷ []) (omega arith)
+
+  -- what is behind the blocks is as it was before all tiles
+  rest-on : {t : ℕ} {d work new : List ℕ} → Run t d work → HeldAfter p G a b t work new → HeldAfter p G a b t work₀ new
+  rest-on {t} {d} {work} r h = record { blocks = h .blocks; rest = λ i k. h .rest i k ∙ before i k (decLt done t) }
+    where
+      before : (i : ℕ) → packs G ≤ i → Dec (done < t) → getD work i 0 ≡ getD work₀ i 0
+      before i k (yes l) = r .held l .rest i k
+      before i k (no f) = ap (λ (ws : List ℕ). getD ws i 0) (r .untouched (omega (arith, f, r .from)))
+
+  next : {t : ℕ} {d work d′ work′ : List ℕ} → Run t d work → d′ ≡ tileStep S t d → length work′ ≡ length work → HeldAfter p G a b t work work′ → Run (t + 1) d′ work′
+  next {t} r e k h =
+      let back : t + 1 - 1 ≡ t = omega arith in
       record {
         from = omega (arith, r .from);
-        words = e ∙ ap (tileStep S t) (r .words) ∙ sym (walk-next (S .cut) (visit S) (tilesFrom done n) t d₀) ∙ ap (λ (ns : List ℕ). walk S ns d₀) (sym more);
-        blocks =
-            f ∙ ap (packed G (readIn p a b) t) (r .blocks)
-            ∙ sym (packed-next G (readIn p a b) (tilesFrom done n) t work₀)
-            ∙ ap (λ (ns : List ℕ). packedLast G (readIn p a b) ns work₀) (sym more);
+        words = e ∙ ap (tileStep S t) (r .words) ∙ sym (walk-next (S .cut) (visit S) (tilesFrom done (t - done)) t d₀) ∙ ap (λ (ns : List ℕ). walk S ns d₀) (sym (more t (r .from)));
+        size = k ∙ r .size;
+        untouched = λ z. absurd (omega (arith, z, r .from));
+        held = λ l. rw back (rest-on r h);
       }
+
+  -- zeros past the edges of the last tile's blocks
+  ended : {t count : ℕ} {d work after : List ℕ} {x : Tile} → Run t d work → t ≡ done + count → 0 < count → TileOf G (t - 1) x → after ≡ padded G x work
+      → after ≡ packedLast G (readIn p a b) (tilesFrom done count) work₀
+  ended {t} {count} r e l k q =
+      let all : tilesFrom done count ≡ tilesFrom done (t - 1 - done) ++ (t - 1) ∷ [] = ap (tilesFrom done) (omega (arith, e, l)) ∙ more (t - 1) (omega (arith, e, l)) in
+      q ∙ padded-packed p k a b (r .held (omega (arith, e, l))) (r .size)
+      ∙ sym (packed-end G (readIn p a b) (tilesFrom done (t - 1 - done)) (t - 1) work₀) ∙ ap (λ (ns : List ℕ). packedLast G (readIn p a b) ns work₀) (sym all)
+
+  -- where no tile was run
+  never : {t count : ℕ} {d work : List ℕ} → Run t d work → t ≡ done + count → count ≡ 0 → work ≡ packedLast G (readIn p a b) (tilesFrom done count) work₀
+  unfolding packedLast tilesFrom
+  never r e z = rw z (r .untouched (omega (arith, e, z)))
 
 abbrev Inv-loop : tie.InvT-loop
 Inv-loop p g named alpha beta a b c d₀ work₀ done count end t₀ d work t = (t ≤ end) × Run p (cutIn g) named alpha beta a b c done d₀ work₀ t d work
@@ -77,7 +108,7 @@ run-tile-requires : tie.Need-run-tile-requires Inv-loop μ-loop
 run-tile-requires c κs =
     let q = c .before .before .before .before .before .before .before .before .before .pre in
     let r = c .before .before .before .loop .inv .1 in
-    (q .0, omega arith, subst (Clear _ _ _ _ _ _) (sym (same-d _ _ _ _ _ _ _ _ _ _ _ r)) (q .2), omega (arith, same-work _ _ _ _ _ _ _ _ _ _ _ (q .3) r))
+    (q .0, omega arith, subst (Clear _ _ _ _ _ _) (sym (same-d _ _ _ _ _ _ _ _ _ _ _ r)) (q .2), omega (arith, r .size), λ e. r .held (ltb-true _ _ e) .blocks right)
 
 add-t : tie.Need-add-t Inv-loop μ-loop
 add-t c = let q = c .before .before .before .before .before .before .before .before .before .before .before .before .before .before .pre in omega (arith, sumOf-small (q .0 .counted .fits))
@@ -87,22 +118,50 @@ loop-less c = omega arith
 
 loop-again : tie.Need-loop-again Inv-loop μ-loop
 loop-again c =
-    let r = c .before .before .before .before .run-tile .ensures in
-    (omega arith, next _ _ _ _ _ _ _ _ _ _ _ (c .before .before .before .before .before .before .before .before .loop .inv .1) (r .0) (r .1))
+    let r = c .before .before .before .before .run-tile in
+    (omega arith, next _ _ _ _ _ _ _ _ _ _ _ (c .before .before .before .before .before .before .before .before .loop .inv .1) (r .ensures .0) (r .kept .1 .1 .1 .1 .1 .1 .1 .1 .1 .0) (r .ensures .1))
+
+sub-tile : tie.Need-sub-tile Inv-loop μ-loop
+sub-tile c = omega arith
+
+tile-requires : tie.Need-tile-requires Inv-loop μ-loop
+tile-requires c κs = let q = c .before .before .before .before .before .before .before .before .pre in (q .0 .counted, omega (arith, q .1))
+
+pad-blocks-requires : tie.Need-pad-blocks-requires Inv-loop μ-loop
+pad-blocks-requires c κs =
+    let q = c .before .before .before .before .before .before .before .before .before .before .pre in
+    (q .0 .counted .fits, tile-begins (q .0) (omega (arith, q .1)) (c .before .tile .ensures), omega (arith, q .3, c .before .before .before .before .loop .inv .1 .size))
 
 same-length : tie.Need-same-length Inv-loop μ-loop
-same-length c = same-d _ _ _ _ _ _ _ _ _ _ _ (c .before .loop .inv .1)
+same-length c = same-d _ _ _ _ _ _ _ _ _ _ _ (c .before .before .before .before .before .before .before .loop .inv .1)
 
 same-length-2 : tie.Need-same-length-2 Inv-loop μ-loop
-same-length-2 c = same-work _ _ _ _ _ _ _ _ _ _ _ (c .before .before .before .before .before .before .before .pre .3) (c .before .loop .inv .1)
+same-length-2 c = c .before .before .pad-blocks .kept .1 .1 .0 ∙ c .before .before .before .before .before .before .before .loop .inv .1 .size
 
 returns : tie.Need-returns Inv-loop μ-loop
 unfolding tilesFrom
 returns c =
-    let s = c .before .before .before .before .before .before .before .args in
-    let r = c .before .loop .inv .1 in
-    let e : c .before .loop .t - s .done ≡ s .count = omega arith in
-    (omega (arith, length-tabulate (s .count) (λ k. s .done + k)), rw e at (r .words), rw e at (r .blocks))
+    let s = c .before .before .before .before .before .before .before .before .before .before .before .before .before .args in
+    let l = c .before .before .before .before .before .before .before .loop in
+    let e : l .t ≡ s .done + s .count = omega arith in
+    let k : l .t - s .done ≡ s .count = omega (arith, e) in
+    let x : TileOf (cutIn (s .g)) (l .t - 1) (c .before .before .before .before .tile .result) = rw e (c .before .before .before .before .tile .ensures) in
+    (omega (arith, e, length-tabulate (s .count) (λ k. s .done + k)), rw k at (l .inv .1 .words), ended _ _ _ _ _ _ _ _ _ _ _ (l .inv .1) e (omega arith) x (c .before .before .pad-blocks .ensures))
+
+same-length-3 : tie.Need-same-length-3 Inv-loop μ-loop
+same-length-3 c = same-d _ _ _ _ _ _ _ _ _ _ _ (c .before .before .loop .inv .1)
+
+same-length-4 : tie.Need-same-length-4 Inv-loop μ-loop
+same-length-4 c = c .before .before .loop .inv .1 .size
+
+returns-2 : tie.Need-returns-2 Inv-loop μ-loop
+unfolding tilesFrom
+returns-2 c =
+    let s = c .before .before .before .before .before .before .before .before .args in
+    let l = c .before .before .loop in
+    let e : l .t ≡ s .done + s .count = omega arith in
+    let k : l .t - s .done ≡ s .count = omega (arith, e) in
+    (omega (arith, e, length-tabulate (s .count) (λ k. s .done + k)), rw k at (l .inv .1 .words), never _ _ _ _ _ _ _ _ _ _ _ (l .inv .1) e (omega arith))
 
 pub run-tiles-spec : {M : Type 1} → statement M
 run-tiles-spec =
@@ -116,6 +175,12 @@ run-tiles-spec =
     add-t
     loop-less
     loop-again
+    sub-tile
+    tile-requires
+    pad-blocks-requires
     same-length
     same-length-2
-    returns)
+    returns
+    same-length-3
+    same-length-4
+    returns-2)

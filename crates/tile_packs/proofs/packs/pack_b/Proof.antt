@@ -7,9 +7,9 @@ use Rattle.groups.specs.Groups.{batch}
 use Rattle.tiles.specs.Grid.{cutIn}
 use Rattle.tile_blocks.specs.Side.{right}
 use Rattle.tile_blocks.proofs.TileParts.{batch-in, side-part, panel-part}
-use Rattle.phases.proofs.TileSteps.{side-packable, side-packed}
-use Rattle.phases.proofs.phases.pack_b.Statement.{statement}
-use Rattle.phases.proofs.phases.pack_b.Tie as tie
+use Rattle.tile_packs.proofs.SideBlocks.{side-packable, side-packed}
+use Rattle.tile_packs.proofs.packs.pack_b.Statement.{statement}
+use Rattle.tile_packs.proofs.packs.pack_b.Tie as tie
 
 cut-block-requires : tie.Need-cut-block-requires
 cut-block-requires c κs = let q = c .before .before .before .before .pre in (side-part (q .0) (q .1) right, omega arith)
@@ -23,12 +23,9 @@ panel-starts-requires c κs = let q = c .before .before .before .before .before 
 cast-pack : tie.Need-cast-pack
 cast-pack c = search needs
 
-cast-pack-2 : tie.Need-cast-pack-2
-cast-pack-2 c = search needs
-
 pack-requires : tie.Need-pack-requires
 pack-requires c κs =
-    let k = c .before .before .before .before in
+    let k = c .before .before .before in
     let s = k .before .before .before .before .before .before .before .before in
     side-packable (s .args .p) (cutIn (s .args .g)) (s .args .at) right (k .before .before .before .cut-block .ensures) (k .before .before .at-batch .ensures)
     (k .panel-starts .ensures .0) (k .panel-starts .ensures .1) (s .pre .0 .counted .fits) (s .pre .1) (s .pre .2)
@@ -38,10 +35,10 @@ same-length c = search needs
 
 returns : tie.Need-returns
 returns c =
-    let k = c .before .before .before .before .before .before .before in
+    let k = c .before .before .before .before .before .before in
     let s = k .before .before .before .before .before .before .before .before .args in
     side-packed (s .p) (cutIn (s .g)) (s .at) right (k .before .before .before .cut-block .ensures) (k .before .before .at-batch .ensures)
-    (k .panel-starts .ensures .0) (k .panel-starts .ensures .1) (s .b .now) (s .work .now) (c .before .before .pack .ensures)
+    (k .panel-starts .ensures .0) (k .panel-starts .ensures .1) (s .b .now) (s .part .now) (c .before .before .pack .ensures)
 
 pub pack-b-spec : {M : Type 1} → statement M
 pack-b-spec =
@@ -51,7 +48,6 @@ pack-b-spec =
     at-batch-requires
     panel-starts-requires
     cast-pack
-    cast-pack-2
     pack-requires
     same-length
     returns)

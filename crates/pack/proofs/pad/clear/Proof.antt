@@ -9,8 +9,8 @@ use borrow.Author.Needs.{needs}
 use lib.ListN.{length, set, length-set}
 use Rattle.words.specs.Fronts.{stored}
 use Rattle.words.proofs.Fronts.{stored-none, stored-set}
-use Rattle.pack.proofs.pack.clear.Statement.{statement}
-use Rattle.pack.proofs.pack.clear.Tie as tie
+use Rattle.pack.proofs.pad.clear.Statement.{statement}
+use Rattle.pack.proofs.pad.clear.Tie as tie
 
 -- the words with zeros from `to` up to x, none at first, and one more
 abbrev cleared : ℕ → ℕ → List ℕ → List ℕ

@@ -11,8 +11,8 @@ use Rattle.words.specs.Loops.{each}
 use Rattle.words.specs.Fronts.{stored}
 use Rattle.words.proofs.Loops.{each-next}
 use Rattle.stretch.specs.StretchLanes.{lanesStored}
-use Rattle.pack.proofs.pack.clear_band.Statement.{statement}
-use Rattle.pack.proofs.pack.clear_band.Tie as tie
+use Rattle.pack.proofs.pad.clear_band.Statement.{statement}
+use Rattle.pack.proofs.pad.clear_band.Tie as tie
 
 abbrev Inv-loop : tie.InvT-loop
 Inv-loop out₀ to n width m q₀ out q = (q ≤ m) × (length out ≡ length out₀) × (out ≡ lanesStored q n width (λ q r. 0) to out₀)

@@ -1,0 +1,2 @@
+// Tiles of up to four rows: their sums are formed along the columns.
+pub mod few;

@@ -1,0 +1,3 @@
+pub mod PaddedBlocks
+pub mod PartLanes
+pub mod SideBlocks
