@@ -3,8 +3,8 @@ ghost use lib.ListN.{length};
 ghost use Rattle.kernel.specs.Kernel.{columnSum};
 ghost use Rattle.kernel.specs.KernelNeeds.{Summable};
 ghost use Rattle.four_columns.specs.FourSums.{FourSums};
-use lanes::lanes::add_lane_to_four;
 use limits::limits::Limits;
+use shared_lane::shared_lane::add_lane_to_four;
 
 // The sums of four columns that stand side by side.
 pub struct Four {

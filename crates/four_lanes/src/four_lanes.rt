@@ -3,8 +3,8 @@ ghost use Rattle.words.specs.Stepped.{stepped};
 ghost use Rattle.limits.specs.Limits.{blockLimit};
 ghost use Rattle.side_sums.specs.SideSums.{sideRun, RunsInside};
 ghost use Rattle.four_lanes.specs.FourLanes.{ofRun, LanesAdded, Blocks};
-use lanes::lanes::add_lane_to_four;
 use limits::limits::Limits;
+use shared_lane::shared_lane::add_lane_to_four;
 
 // The products of a run of depth counts, for n outputs of four runs side by side: a lane of A for each count, which each run multiplies by its own word of B.
 pub fn add_to_four(

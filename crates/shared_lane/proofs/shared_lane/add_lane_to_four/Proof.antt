@@ -4,10 +4,10 @@ use mathlib.Core.Path.{_≡_, refl}
 use Prim.Native.Nat.{_-_, _<_, _≤_}
 use native.Mathlib.Omega.{arith}
 use Rattle.words.specs.Loops.{each}
 use Rattle.lanes.specs.LaneProducts.{productsAdded, scaled}
 use Rattle.lanes.proofs.LaneTurns.{product-turn}
-use Rattle.lanes.proofs.lanes.add_lane_to_four.Statement.{statement}
-use Rattle.lanes.proofs.lanes.add_lane_to_four.Tie as tie
+use Rattle.shared_lane.proofs.shared_lane.add_lane_to_four.Statement.{statement}
+use Rattle.shared_lane.proofs.shared_lane.add_lane_to_four.Tie as tie
 
 abbrev Inv-loop : tie.InvT-loop
 Inv-loop s0₀ s1₀ s2₀ s3₀ x from n b0 b1 b2 b3 r₀ s0 s1 s2 s3 r =
