@@ -19,9 +19,9 @@ use Rattle.odometer.specs.Odometer.{Stands}
 use Rattle.sums.specs.declared.walk.Walk.{Walk}
 use Rattle.sums.specs.Walk.{reached, steps, sumFrom, Walks}
 use Rattle.sums.proofs.GroupRuns.{run-place}
-use Rattle.side_sums.specs.SideSums.{sideRun, Added, RunsInside, AllReadable}
+use Rattle.side_sums.specs.SideSums.{sideRun, Added, AllReadable}
 use Rattle.side_sums.proofs.GroupSums.{upTo, run-inside, run-added}
-use Rattle.four_lanes.specs.FourLanes.{LanesAdded}
+use Rattle.four_sums.specs.FourRunSums.{onFrom, RunInside, RunAdded}
 
 -- two words that are the same, both moved
 moved-word : (i to x s t : ℕ) → word 64 (i + s) ≡ word 64 (x + t) → word 64 (word 64 (i + to) + s) ≡ word 64 (word 64 (to + x) + t)
@@ -47,15 +47,19 @@ module _ {along from : Offsets} {x y : ℕ} (w : OwnWords along from x y) where
   at-b r = rw (w .none, w .inB) (omega (arith, w .low))
 
   module _ {n : ℕ} (g : List Label) (a b : List ℕ) where
-    pub reads-a : AllReadable n g a b (steps from along) → (r : ℕ) → r < n → Within (size g) (reached A (stepped x 1 r) g) (length a)
+    reads-a : AllReadable n g a b (steps from along) → (r : ℕ) → r < n → Within (size g) (reached A (stepped x 1 r) g) (length a)
     reads-a k r h = rw (at-a r) at (k .each r h .inA)
 
-    pub reads-b : AllReadable n g a b (steps from along) → (r : ℕ) → r < n → Within (size g) (reached B y g) (length b)
+    reads-b : AllReadable n g a b (steps from along) → (r : ℕ) → r < n → Within (size g) (reached B y g) (length b)
     reads-b k r h = rw (at-b r) at (k .each r h .inB)
 
     pub sums-from : (all : ℕ) → size g ≡ all → {old new : List ℕ} → Added n (λ r. upTo g a b all (stepped x 1 r) y) old new → Added n (λ r. sumFrom g a b (steps from along r)) old new
     unfolding sumFrom
     sums-from all e k = record { len = k .len; each = λ r h. rw (at-a r, at-b r, e) (k .each r h) }
+
+-- along run m of the depth group, the run of outputs that began at y in B goes from j
+pub record Reaches (g : List Label) (w : Walk) (m y j : ℕ) : Type 0 where
+  pub each : (v : ℕ) → v < w .len → stepped j (wordsIn (w .step) B) v ≡ reached B y g (w .len * m + v)
 
 -- run m of the depth group, from where it begins for the first run of outputs
 module _ {g : List Label} {w : Walk} (k : Walks g w) (from : Offsets) {m : ℕ} (h : m < w .runs) {array : List ℕ} {at : Offsets}
@@ -66,18 +70,19 @@ module _ {g : List Label} {w : Walk} (k : Walks g w) (from : Offsets) {m : ℕ} 
   lane-place : (r v : ℕ) → v < w .len → lanes r v ≡ reached A (stepped (wordsIn from A) 1 r) g (w .len * m + v)
   lane-place r v i = omega (arith, run-place g w k h s A v i)
 
+  pub first-place : Reaches g w m (wordsIn from B) (wordsIn at B)
+  first-place = record { each = run-place g w k h s B }
+
   -- B's places of the run of outputs that is `to` further
-  pub moved-place : (to j : ℕ) → j ≡ word 64 (wordsIn at B + to) → (v : ℕ) → v < w .len
-      → stepped j (wordsIn (w .step) B) v ≡ reached B (word 64 (to + wordsIn from B)) g (w .len * m + v)
-  moved-place to j e v i = rw e (moved-word (wordsIn at B) to (wordsIn from B) (v * wordsIn (w .step) B) (offsetIn (wordOf 64) B g (w .len * m + v)) (run-place g w k h s B v i))
+  pub moved-place : (to : ℕ) → Reaches g w m (word 64 (to + wordsIn from B)) (onFrom at to)
+  moved-place to =
+      record { each = λ v i. moved-word (wordsIn at B) to (wordsIn from B) (v * wordsIn (w .step) B) (offsetIn (wordOf 64) B g (w .len * m + v)) (run-place g w k h s B v i) }
 
-  -- a run of outputs that began at y in B and is at j
-  module _ (y j : ℕ) (p : (v : ℕ) → v < w .len → stepped j (wordsIn (w .step) B) v ≡ reached B y g (w .len * m + v)) {n : ℕ} (a b : List ℕ) where
-    pub four-inside : ((r : ℕ) → r < n → Within (size g) (reached A (stepped (wordsIn from A) 1 r) g) (length a)) → ((r : ℕ) → r < n → Within (size g) (reached B y g) (length b))
-        → RunsInside n (w .len) lanes (λ r. stepped j (wordsIn (w .step) B)) a b
-    four-inside = run-inside k h (stepped (wordsIn from A) 1) (λ r. y) lanes (λ r. stepped j (wordsIn (w .step) B)) lane-place (λ r. p)
+  module _ {y j : ℕ} (p : Reaches g w m y j) {n : ℕ} (a b : List ℕ) where
+    pub four-inside : {along own : Offsets} → OwnWords along own (wordsIn from A) y → AllReadable n g a b (steps own along) → RunInside n at (w .step) (w .len) a b j
+    four-inside o r =
+        run-inside k h (stepped (wordsIn from A) 1) (λ r. y) lanes (λ r. stepped j (wordsIn (w .step) B)) lane-place (λ r. p .each) (reads-a o g a b r) (reads-b o g a b r)
 
-    pub four-added : {old mid new : List ℕ} → Added n (λ r. upTo g a b (w .len * m) (stepped (wordsIn from A) 1 r) y) old mid
-        → LanesAdded n (w .len) (wordsIn at A) (wordsIn (w .step) A) a j (wordsIn (w .step) B) b mid new
+    pub four-added : {old mid new : List ℕ} → Added n (λ r. upTo g a b (w .len * m) (stepped (wordsIn from A) 1 r) y) old mid → RunAdded n at (w .step) (w .len) a b j mid new
         → Added n (λ r. upTo g a b (w .len * (m + 1)) (stepped (wordsIn from A) 1 r) y) old new
-    four-added = run-added k h (stepped (wordsIn from A) 1) (λ r. y) lanes (λ r. stepped j (wordsIn (w .step) B)) lane-place (λ r. p) a b
+    four-added = run-added k h (stepped (wordsIn from A) 1) (λ r. y) lanes (λ r. stepped j (wordsIn (w .step) B)) lane-place (λ r. p .each) a b

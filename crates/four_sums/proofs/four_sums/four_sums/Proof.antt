@@ -6,29 +6,30 @@ use mathlib.Core.Path.{_≡_, refl, ap, sym, _∙_}
 use Prim.Native.Nat.{ℕ, _+_, _*_, _-_, _^_, _≤_, _<_}
 use native.Mathlib.Nat.{mul-zero}
 use native.Mathlib.Omega.{arith}
-use lib.Dec.{lit<}
 use lib.ListN.{length, drop}
 use Rattle.words.specs.Words.{word}
 use Rattle.words.specs.Sums.{sumTo}
 use Rattle.words.specs.Stepped.{stepped}
 use Rattle.limits.specs.Limits.{labelsLimit}
 use Rattle.contraction.specs.Operands.{A, B}
+use Rattle.offsets.specs.declared.offsets.Offsets.{Offsets}
 use Rattle.offsets.specs.Offsets.{wordsIn}
 use Rattle.offsets.proofs.OwnedWords.{words-fit}
 use Rattle.odometer.specs.Odometer.{Stands}
 use Rattle.dots.specs.Dot.{dot}
-use Rattle.sums.specs.Walk.{over}
+use Rattle.sums.specs.Walk.{reached, steps, over}
 use Rattle.sums.proofs.GroupRuns.{run-place, first-run, next-run}
-use Rattle.side_sums.specs.SideSums.{sideRun, Added, RunsInside}
+use Rattle.side_sums.specs.SideSums.{Added, AllReadable}
 use Rattle.side_sums.proofs.SideTurns.{added-none}
 use Rattle.side_sums.proofs.GroupSums.{upTo}
 use Rattle.four_lanes.proofs.ByRun.{by-run}
-use Rattle.four_sums.proofs.FourDepth.{OwnWords, moved-place, reads-a, reads-b, sums-from, four-inside, four-added}
+use Rattle.four_sums.specs.FourRunSums.{onFrom, RunInside}
+use Rattle.four_sums.proofs.FourDepth.{OwnWords, Reaches, first-place, moved-place, sums-from, four-inside, four-added}
 use Rattle.four_sums.proofs.four_sums.four_sums.Statement.{statement}
 use Rattle.four_sums.proofs.four_sums.four_sums.Tie as tie
 
 abbrev Inv-loop : tie.InvT-loop
-Inv-loop s0₀ s1₀ s2₀ s3₀ a b n depth table count step-a step-b to-1 to-2 to-3 digits₀ at₀ m₀ s0 s1 s2 s3 digits at m =
+Inv-loop s0₀ s1₀ s2₀ s3₀ a b n depth table count step len to-1 to-2 to-3 digits₀ at₀ m₀ s0 s1 s2 s3 digits at m =
     (m ≤ depth .runs) × (length digits ≡ labelsLimit)
     × (m < depth .runs → Stands (drop 1 (over depth)) (wordsIn at₀) m digits at)
     × Added n (λ r. upTo (over depth) a b (depth .len * m) (stepped (wordsIn at₀ A) 1 r) (wordsIn at₀ B)) s0₀ s0
@@ -37,13 +38,7 @@ Inv-loop s0₀ s1₀ s2₀ s3₀ a b n depth table count step-a step-b to-1 to-2
     × Added n (λ r. upTo (over depth) a b (depth .len * m) (stepped (wordsIn at₀ A) 1 r) (word 64 (to-3 + wordsIn at₀ B))) s3₀ s3
 
 abbrev μ-loop : tie.MeasureT-loop
-μ-loop s0₀ s1₀ s2₀ s3₀ a b n depth table count step-a step-b to-1 to-2 to-3 digits₀ at₀ m₀ s0 s1 s2 s3 digits at m = depth .runs - m
-
-element-copy-out-step-a : tie.Need-element-copy-out-step-a Inv-loop μ-loop
-element-copy-out-step-a c = lit< tt
-
-element-copy-out-step-b : tie.Need-element-copy-out-step-b Inv-loop μ-loop
-element-copy-out-step-b c = lit< tt
+μ-loop s0₀ s1₀ s2₀ s3₀ a b n depth table count step len to-1 to-2 to-3 digits₀ at₀ m₀ s0 s1 s2 s3 digits at m = depth .runs - m
 
 further-requires : tie.Need-further-requires Inv-loop μ-loop
 further-requires c κs = tt
@@ -57,7 +52,7 @@ further-requires-3 c κs = tt
 loop-holds : tie.Need-loop-holds Inv-loop μ-loop
 unfolding dot sumTo
 loop-holds c =
-    let s = c .before .before .before .before .before .before .before .before .before in
+    let s = c .before .before .before .before .before .before .before in
     let x = s .args in (
       omega arith,
       refl,
@@ -71,7 +66,7 @@ loop-holds c =
 -- where each run of outputs begins
 module _ (c : tie.After-further3 Inv-loop μ-loop) where
   abbrev start : tie.Start Inv-loop μ-loop
-  start = c .before .before .before .before .before .before .before .before .before
+  start = c .before .before .before .before .before .before .before
 
   low : wordsIn (start .args .from-0) B < 2 ^ 64
   low = words-fit (start .args .from-0 .words) _ (start .good .1 .1 .1 .1 .1 .1 .0 .1 .1 .0 .1 .1) 1
@@ -98,75 +93,78 @@ module _ (c : tie.After-further3 Inv-loop μ-loop) where
   own-3 : OwnWords (start .args .along) (start .args .from-3) (wordsIn (start .args .from-0) A) word-3
   own-3 = record { one = start .pre .4 .along; none = start .pre .4 .still; inA = start .pre .4 .same 3; inB = c .further3 .ensures; low = omega arith }
 
-element-copy-out-i : tie.Need-element-copy-out-i Inv-loop μ-loop
-element-copy-out-i c = lit< tt
+-- a turn
+module _ (c : tie.Then1 Inv-loop μ-loop) where
+  abbrev turn : tie.At-loop Inv-loop μ-loop
+  turn = c .before .before
 
-element-copy-out-j : tie.Need-element-copy-out-j Inv-loop μ-loop
-element-copy-out-j c = lit< tt
+  abbrev begun : tie.Start Inv-loop μ-loop
+  begun = start (turn .before)
 
-wrapping-add-u64-requires : tie.Need-wrapping-add-u64-requires Inv-loop μ-loop
-wrapping-add-u64-requires c κs = tt
+  stands : Stands (drop 1 (over (begun .args .depth))) (wordsIn (begun .args .from-0)) (turn .loop .m) (turn .loop .digits) (turn .loop .at)
+  stands = turn .loop .inv .2 (c .if1 .taken)
 
-wrapping-add-u64-requires-2 : tie.Need-wrapping-add-u64-requires-2 Inv-loop μ-loop
-wrapping-add-u64-requires-2 c κs = tt
+  first : Reaches (over (begun .args .depth)) (begun .args .depth) (turn .loop .m) (wordsIn (begun .args .from-0) B) (wordsIn (turn .loop .at) B)
+  first = first-place (begun .pre .3) (begun .args .from-0) (c .if1 .taken) stands
 
-wrapping-add-u64-requires-3 : tie.Need-wrapping-add-u64-requires-3 Inv-loop μ-loop
-wrapping-add-u64-requires-3 c κs = tt
+  moved : (to : ℕ) → Reaches (over (begun .args .depth)) (begun .args .depth) (turn .loop .m) (word 64 (to + wordsIn (begun .args .from-0) B)) (onFrom (turn .loop .at) to)
+  moved = moved-place (begun .pre .3) (begun .args .from-0) (c .if1 .taken) stands
 
-add-to-four-requires : tie.Need-add-to-four-requires Inv-loop μ-loop
-add-to-four-requires c κs =
-    let b = c .before .before .before .before .before .before .before .before .before .before .before .before in
-    let s = start b in
+  inside : {y j : ℕ} {own : Offsets} → Reaches (over (begun .args .depth)) (begun .args .depth) (turn .loop .m) y j
+      → OwnWords (begun .args .along) own (wordsIn (begun .args .from-0) A) y
+      → AllReadable (begun .args .n) (over (begun .args .depth)) (begun .args .a .now) (begun .args .b .now) (steps own (begun .args .along))
+      → RunInside (begun .args .n) (turn .loop .at) (begun .args .depth .step) (begun .args .depth .len) (begun .args .a .now) (begun .args .b .now) j
+  inside p = four-inside (begun .pre .3) (begun .args .from-0) (c .if1 .taken) stands p (begun .args .a .now) (begun .args .b .now)
+
+add-run-requires : tie.Need-add-run-requires Inv-loop μ-loop
+add-run-requires c κs =
+    let t = c .before .before .before .before in
+    let b = turn t .before in
+    let s = begun t in
     let x = s .args in
-    let l = c .before .before .before .before .before .before .before .before .before .before .before .loop in
-    let h : l .m < x .depth .runs = c .before .before .before .before .before .before .before .before .before .if1 .taken in (
+    let l = turn t .loop in (
       s .pre .0,
       s .pre .1,
       record { first = l .inv .3 .len ∙ s .pre .2 .first; second = l .inv .4 .len ∙ s .pre .2 .second; third = l .inv .5 .len ∙ s .pre .2 .third; fourth = l .inv .6 .len ∙ s .pre .2 .fourth },
-      by-run (λ y. RunsInside (x .n) (x .depth .len) (sideRun (wordsIn (l .at) A) 1 (wordsIn (x .depth .step) A)) (λ r. stepped y (wordsIn (x .depth .step) B)) (x .a .now) (x .b .now))
-          (four-inside (s .pre .3) (x .from-0) h (l .inv .2 h) (wordsIn (x .from-0) B) _ (run-place _ _ (s .pre .3) h (l .inv .2 h) B) (x .a .now) (x .b .now)
-          (reads-a (own-0 b) (over (x .depth)) (x .a .now) (x .b .now) (s .pre .5 0))
-          (reads-b (own-0 b) (over (x .depth)) (x .a .now) (x .b .now) (s .pre .5 0)))
-          (four-inside (s .pre .3) (x .from-0) h (l .inv .2 h) (word-1 b) _ (moved-place (s .pre .3) (x .from-0) h (l .inv .2 h) _ _ (c .before .before .before .before .before .before .wrapping-add-u64 .ensures)) (x .a .now) (x .b .now)
-          (reads-a (own-1 b) (over (x .depth)) (x .a .now) (x .b .now) (s .pre .5 1))
-          (reads-b (own-1 b) (over (x .depth)) (x .a .now) (x .b .now) (s .pre .5 1)))
-          (four-inside (s .pre .3) (x .from-0) h (l .inv .2 h) (word-2 b) _ (moved-place (s .pre .3) (x .from-0) h (l .inv .2 h) _ _ (c .before .before .before .before .before .wrapping-add-u642 .ensures)) (x .a .now) (x .b .now)
-          (reads-a (own-2 b) (over (x .depth)) (x .a .now) (x .b .now) (s .pre .5 2))
-          (reads-b (own-2 b) (over (x .depth)) (x .a .now) (x .b .now) (s .pre .5 2)))
-          (four-inside (s .pre .3) (x .from-0) h (l .inv .2 h) (word-3 b) _ (moved-place (s .pre .3) (x .from-0) h (l .inv .2 h) _ _ (c .before .before .before .before .wrapping-add-u643 .ensures)) (x .a .now) (x .b .now)
-          (reads-a (own-3 b) (over (x .depth)) (x .a .now) (x .b .now) (s .pre .5 3))
-          (reads-b (own-3 b) (over (x .depth)) (x .a .now) (x .b .now) (s .pre .5 3))),
+      by-run (RunInside (x .n) (l .at) (x .depth .step) (x .depth .len) (x .a .now) (x .b .now))
+          (inside t (first t) (own-0 b) (s .pre .5 0))
+          (inside t (moved t _) (own-1 b) (s .pre .5 1))
+          (inside t (moved t _) (own-2 b) (s .pre .5 2))
+          (inside t (moved t _) (own-3 b) (s .pre .5 3)),
     )
 
 slice-aggregate-advance : tie.Need-slice-aggregate-advance Inv-loop μ-loop
-slice-aggregate-advance c = sym (c .before .before .before .before .before .before .before .before .before .before .before .before .before .loop .inv .1)
+slice-aggregate-advance c = sym (c .before .before .before .before .before .before .before .before .loop .inv .1)
 
 advance-requires : tie.Need-advance-requires Inv-loop μ-loop
 advance-requires c κs =
-    let r = c .before .before .before .before .before .before .before .before .before .before .before .before .before .before .before .before .before .before .before .before .before .before .before .pre .6 in
-    (omega (arith, r .few, c .before .before .before .before .before .before .before .before .before .before .before .before .before .loop .inv .1), r .room)
+    let t = c .before .before .before .before .before .before in
+    let r = begun t .pre .6 in
+    (omega (arith, r .few, turn t .loop .inv .1), r .room)
 
 add-m : tie.Need-add-m Inv-loop μ-loop
-add-m c = omega (arith, c .before .before .before .before .before .before .before .before .before .before .before .before .before .if1 .taken, c .before .before .before .before .before .before .before .before .before .before .before .before .before .before .before .before .before .before .before .before .before .before .before .before .before .good .1 .1 .1 .1 .1 .1 .1 .1 .1 .1 .1 .1 .0 .1)
+add-m c =
+    let t = c .before .before .before .before .before .before .before .before in
+    omega (arith, t .if1 .taken, begun t .good .1 .1 .1 .1 .1 .1 .1 .1 .1 .1 .1 .1 .0 .1)
 
 loop-less : tie.Need-loop-less Inv-loop μ-loop
-loop-less c = omega (arith, c .before .before .before .before .before .before .before .before .before .before .before .before .before .if1 .taken)
+loop-less c = omega (arith, c .before .before .before .before .before .before .before .before .if1 .taken)
 
 loop-again : tie.Need-loop-again Inv-loop μ-loop
 loop-again c =
-    let b = c .before .before .before .before .before .before .before .before .before .before .before .before .before .before .before .before in
-    let s = start b in
+    let t = c .before .before .before .before .before .before .before .before in
+    let s = begun t in
     let x = s .args in
-    let l = c .before .before .before .before .before .before .before .before .before .before .before .before .before .before .before .loop in
-    let h : l .m < x .depth .runs = c .before .before .before .before .before .before .before .before .before .before .before .before .before .if1 .taken in
-    let e = c .before .before .before .add-to-four .ensures in (
+    let l = turn t .loop in
+    let h = t .if1 .taken in
+    let e = c .before .before .before .add-run .ensures in (
       omega (arith, h),
       c .before .advance .kept .1 .0 ∙ l .inv .1,
-      λ i. next-run _ _ (s .pre .3) (s .pre .6) (c .before .advance .ensures) (l .inv .2 h) i,
-      four-added (s .pre .3) (x .from-0) h (l .inv .2 h) (wordsIn (x .from-0) B) _ (run-place _ _ (s .pre .3) h (l .inv .2 h) B) (x .a .now) (x .b .now) (l .inv .3) (e .0),
-      four-added (s .pre .3) (x .from-0) h (l .inv .2 h) (word-1 b) _ (moved-place (s .pre .3) (x .from-0) h (l .inv .2 h) _ _ (c .before .before .before .before .before .before .before .before .before .before .wrapping-add-u64 .ensures)) (x .a .now) (x .b .now) (l .inv .4) (e .1),
-      four-added (s .pre .3) (x .from-0) h (l .inv .2 h) (word-2 b) _ (moved-place (s .pre .3) (x .from-0) h (l .inv .2 h) _ _ (c .before .before .before .before .before .before .before .before .before .wrapping-add-u642 .ensures)) (x .a .now) (x .b .now) (l .inv .5) (e .2),
-      four-added (s .pre .3) (x .from-0) h (l .inv .2 h) (word-3 b) _ (moved-place (s .pre .3) (x .from-0) h (l .inv .2 h) _ _ (c .before .before .before .before .before .before .before .before .wrapping-add-u643 .ensures)) (x .a .now) (x .b .now) (l .inv .6) (e .3),
+      λ i. next-run _ _ (s .pre .3) (s .pre .6) (c .before .advance .ensures) (stands t) i,
+      four-added (s .pre .3) (x .from-0) h (stands t) (first t) (x .a .now) (x .b .now) (l .inv .3) (e .0),
+      four-added (s .pre .3) (x .from-0) h (stands t) (moved t _) (x .a .now) (x .b .now) (l .inv .4) (e .1),
+      four-added (s .pre .3) (x .from-0) h (stands t) (moved t _) (x .a .now) (x .b .now) (l .inv .5) (e .2),
+      four-added (s .pre .3) (x .from-0) h (stands t) (moved t _) (x .a .now) (x .b .now) (l .inv .6) (e .3),
     )
 
 returns : tie.Need-returns Inv-loop μ-loop
@@ -188,18 +186,11 @@ four-sums-spec =
     (tie.spec
     Inv-loop
     μ-loop
-    element-copy-out-step-a
-    element-copy-out-step-b
     further-requires
     further-requires-2
     further-requires-3
     loop-holds
-    element-copy-out-i
-    element-copy-out-j
-    wrapping-add-u64-requires
-    wrapping-add-u64-requires-2
-    wrapping-add-u64-requires-3
-    add-to-four-requires
+    add-run-requires
     slice-aggregate-advance
     advance-requires
     add-m
