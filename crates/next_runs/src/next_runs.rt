@@ -8,7 +8,7 @@ ghost use Rattle.odometer.specs.Odometer.{Stands, Rows};
 ghost use Rattle.sums.specs.Walk.{over};
 ghost use Rattle.four_lanes.specs.FourLanes.{ofRun};
 ghost use Rattle.four_sums.specs.FourRunSums.{Shared};
-ghost use Rattle.next_runs.specs.NextRuns.{runsFilled, Fillable, Moved, Ahead};
+ghost use Rattle.next_runs.specs.NextRuns.{runsFilled, SuitsFour, Fillable, Moved, Ahead};
 use contraction::contraction::Contraction;
 use four_runs::four_runs::NextRuns;
 use four_runs::four_runs::fill_four;
@@ -22,6 +22,7 @@ use sums::walk::Walk;
 // Does it pay to look for four runs that share what is read of A? Not for a few outputs or depth counts, and not where A goes along with the second label.
 pub fn suits_four(step: Offsets, len: u32, deep: u32, rows: &[u64], labels: usize) -> bool
     requires { ⌜ 5 * labels ≤ length (now rows) ⌝ }
+    ensures { λ r. ⌜ (r ≡ true → SuitsFour step len deep (now (rows .entry)) labels) × (SuitsFour step len deep (now (rows .entry)) labels → r ≡ true) ⌝ }
 {
     if labels == 0 {
         return false;
