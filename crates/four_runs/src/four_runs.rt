@@ -14,7 +14,6 @@ use limits::limits::Limits;
 use offsets::offsets::Offsets;
 use output_block::output_block::store_run;
 use outputs::outputs::clipped;
-use outputs::outputs::leap_of;
 use sums::walk::Walk;
 
 // Where the three runs after a run begin, and whether they share with it what is read of A.
@@ -123,7 +122,7 @@ pub fn fill_four(
         ≡ fourFilled named alpha beta (over depth) (now (a .entry)) (now (b .entry)) (now (c .entry)) step len
         (ofRun from (next .second) (next .third) (next .fourth)) (now (d .entry)) ⌝ }
 {
-    let leap = leap_of(step, 64);
+    let leap = step.times(64);
     let mut at0 = from;
     let mut at1 = next.second;
     let mut at2 = next.third;

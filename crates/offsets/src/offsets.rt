@@ -64,16 +64,25 @@ impl Offsets {
         Offsets { words }
     }
 
-    // A value of a label times its strides.
-    pub fn along(l: Dim, value: u32) -> Offsets
-        ensures { λ r. ⌜ Words r (λ o. value * wordOf 64 (asLabel l .stride o)) ⌝ }
+    // That many times as much.
+    pub fn times(self, n: u32) -> Offsets
+        ensures { λ r. ⌜ Words r (λ o. n * wordsIn self o) ⌝ }
     {
         let mut words = [0u64; Contraction::TENSORS];
         let mut o: usize = 0;
         while o < Contraction::TENSORS {
-            words[o] = moved(value, l.strides[o]);
+            words[o] = words::scale(n, self.words[o]);
             o += 1;
         }
         Offsets { words }
+    }
+
+    // A value of a label times its strides.
+    pub fn along(l: Dim, value: u32) -> Offsets
+        ensures { λ r. ⌜ Words r (λ o. value * wordOf 64 (asLabel l .stride o)) ⌝ }
+    {
+        let words = l.strides;
+        let step = Offsets { words };
+        step.times(value)
     }
 }

@@ -1,8 +1,7 @@
 ghost use mathlib.Core.Path.{_≡_};
-ghost use Prim.Native.Nat.{_*_, _≤_, min};
+ghost use Prim.Native.Nat.{_≤_, min};
 ghost use lib.ListN.{length};
 ghost use Rattle.limits.specs.Limits.{blockLimit};
-ghost use Rattle.offsets.specs.Offsets.{wordsIn, Words};
 ghost use Rattle.sums.specs.Walk.{over};
 ghost use Rattle.output_run.specs.FilledOutput.{runFilled, RunFillable};
 use contraction::contraction::Contraction;
@@ -28,19 +27,6 @@ pub fn clipped(left: u32, width: u32) -> u32
     if left < width { left } else { width }
 }
 
-// That many steps at once.
-pub fn leap_of(step: Offsets, width: u32) -> Offsets
-    ensures { λ r. ⌜ Words r (λ o. width * wordsIn step o) ⌝ }
-{
-    let mut words = [0u64; Contraction::TENSORS];
-    let mut o: usize = 0;
-    while o < Contraction::TENSORS {
-        words[o] = words::scale(width, step.words[o]);
-        o += 1;
-    }
-    Offsets { words }
-}
-
 // The words of D along a run of output counts, block by block: `len` places, each a step from the one before.
 fn fill_blocks(
     a: &[u32],
@@ -62,7 +48,7 @@ fn fill_blocks(
         ≡ runFilled named alpha beta (over depth) (now (a .entry)) (now (b .entry)) (now (c .entry)) step len from (now (d .entry)) ⌝ }
 {
     let width = width_of(step);
-    let leap = leap_of(step, width);
+    let leap = step.times(width);
     let mut at = from;
     let mut v: u32 = 0;
     while v < len {

@@ -32,8 +32,8 @@ Inv-loop a b c d₀ named alpha beta step len depth table count leap at0₀ at1�
 abbrev μ-loop : tie.MeasureT-loop
 μ-loop a b c d₀ named alpha beta step len depth table count leap at0₀ at1₀ at2₀ at3₀ v₀ d at0 at1 at2 at3 v = len - v
 
-leap-of-requires : tie.Need-leap-of-requires Inv-loop μ-loop
-leap-of-requires c κs = tt
+times-requires : tie.Need-times-requires Inv-loop μ-loop
+times-requires c κs = tt
 
 loop-holds : tie.Need-loop-holds Inv-loop μ-loop
 unfolding each
@@ -109,10 +109,10 @@ loop-again c =
       below,
       f .kept .1 .1 .1 .0 ∙ l .inv .1,
       λ i. by-runs (λ (to from : Offsets). wordsIn to ≡ steps from (x .step) (l .v + n))
-          (leapt (x .from) (x .step) (l .at0) (l .v) n (l .inv .2 h 0) 64 (omega (arith, e, i)) (c .before .before .before .before .before .before .before .before .before .before .before .before .before .before .leap-of .ensures) (c .before .before .before .plus .ensures))
-          (leapt (x .next .second) (x .step) (l .at1) (l .v) n (l .inv .2 h 1) 64 (omega (arith, e, i)) (c .before .before .before .before .before .before .before .before .before .before .before .before .before .before .leap-of .ensures) (c .before .before .plus2 .ensures))
-          (leapt (x .next .third) (x .step) (l .at2) (l .v) n (l .inv .2 h 2) 64 (omega (arith, e, i)) (c .before .before .before .before .before .before .before .before .before .before .before .before .before .before .leap-of .ensures) (c .before .plus3 .ensures))
-          (leapt (x .next .fourth) (x .step) (l .at3) (l .v) n (l .inv .2 h 3) 64 (omega (arith, e, i)) (c .before .before .before .before .before .before .before .before .before .before .before .before .before .before .leap-of .ensures) (c .plus4 .ensures)),
+          (leapt (x .from) (x .step) (l .at0) (l .v) n (l .inv .2 h 0) 64 (omega (arith, e, i)) (c .before .before .before .before .before .before .before .before .before .before .before .before .before .before .times .ensures) (c .before .before .before .plus .ensures))
+          (leapt (x .next .second) (x .step) (l .at1) (l .v) n (l .inv .2 h 1) 64 (omega (arith, e, i)) (c .before .before .before .before .before .before .before .before .before .before .before .before .before .before .times .ensures) (c .before .before .plus2 .ensures))
+          (leapt (x .next .third) (x .step) (l .at2) (l .v) n (l .inv .2 h 2) 64 (omega (arith, e, i)) (c .before .before .before .before .before .before .before .before .before .before .before .before .before .before .times .ensures) (c .before .plus3 .ensures))
+          (leapt (x .next .fourth) (x .step) (l .at3) (l .v) n (l .inv .2 h 3) 64 (omega (arith, e, i)) (c .before .before .before .before .before .before .before .before .before .before .before .before .before .before .times .ensures) (c .plus4 .ensures)),
       four-turn (ofRun (x .from) (x .next .second) (x .next .third) (x .next .fourth)) (ofRun (l .at0) (l .at1) (l .at2) (l .at3)) (x .step) (l .v) (l .inv .2 h)
           (x .named) (x .alpha) (x .beta) (over (x .depth)) (x .a .now) (x .b .now) (x .c .now) n (fewer below (s .pre .1)) (x .d .now) (l .inv .3) (f .ensures),
     )
@@ -132,7 +132,7 @@ fill-four-spec =
     (tie.spec
     Inv-loop
     μ-loop
-    leap-of-requires
+    times-requires
     loop-holds
     sub-clipped
     clipped-requires

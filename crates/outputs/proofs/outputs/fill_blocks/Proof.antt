@@ -26,8 +26,8 @@ abbrev μ-loop : tie.MeasureT-loop
 width-of-requires : tie.Need-width-of-requires Inv-loop μ-loop
 width-of-requires c κs = tt
 
-leap-of-requires : tie.Need-leap-of-requires Inv-loop μ-loop
-leap-of-requires c κs = tt
+times-requires : tie.Need-times-requires Inv-loop μ-loop
+times-requires c κs = tt
 
 loop-holds : tie.Need-loop-holds Inv-loop μ-loop
 unfolding each
@@ -80,7 +80,7 @@ loop-again c =
     let n = c .before .before .before .before .before .clipped .result in (
       omega (arith, e),
       f .kept .1 .1 .1 .0 ∙ l .inv .1,
-      λ i. leapt (x .from) (x .step) (l .at) (l .v) n (l .inv .2 h) (c .before .before .before .before .before .before .before .before .before .width-of .result) (omega (arith, e)) (c .before .before .before .before .before .before .before .before .leap-of .ensures) (c .plus .ensures),
+      λ i. leapt (x .from) (x .step) (l .at) (l .v) n (l .inv .2 h) (c .before .before .before .before .before .before .before .before .before .width-of .result) (omega (arith, e)) (c .before .before .before .before .before .before .before .before .times .ensures) (c .plus .ensures),
       block-turn (x .from) (x .step) (l .at) (l .v) (l .inv .2 h) (filled (x .named) (x .alpha) (x .beta) (over (x .depth)) (x .a .now) (x .b .now) (x .c .now)) n (x .d .now)
           (l .inv .3) (f .ensures),
     )
@@ -101,7 +101,7 @@ fill-blocks-spec =
     Inv-loop
     μ-loop
     width-of-requires
-    leap-of-requires
+    times-requires
     loop-holds
     sub-clipped
     clipped-requires

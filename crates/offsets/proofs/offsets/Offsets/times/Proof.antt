@@ -1,4 +1,4 @@
--- `leap_of` meets its contract. The invariant: at the places of the first o tensors stand the products, which wrap. The measure is how many are left.
+-- `Offsets::times` meets its contract. The invariant: at the places of the first o tensors stand the products, which wrap. The measure is how many are left.
 -- Assumes nothing.
 use mathlib.Core.Path.{_≡_, refl, sym}
 use Prim.Native.Nat.{ℕ, _-_, _*_, _≤_}
@@ -8,23 +8,23 @@ use Rattle.words.specs.Words.{word}
 use Rattle.words.specs.Fronts.{front}
 use Rattle.words.proofs.Fronts.{front-none}
 use Rattle.contraction.specs.TensorPlaces.{tensorCount}
 use Rattle.offsets.specs.declared.offsets.Offsets.{Offsets}
 use Rattle.offsets.proofs.OffsetWords.{next-place, by-places}
-use Rattle.outputs.proofs.outputs.leap_of.Statement.{statement}
-use Rattle.outputs.proofs.outputs.leap_of.Tie as tie
+use Rattle.offsets.proofs.offsets.Offsets.times.Statement.{statement}
+use Rattle.offsets.proofs.offsets.Offsets.times.Tie as tie
 
 -- the product at a place
 abbrev timesAt : ℕ → Offsets → ℕ → ℕ
-timesAt n step k = word 64 (n * getD (step .words) k 0)
+timesAt n x k = word 64 (n * getD (x .words) k 0)
 
 abbrev Inv-loop : tie.InvT-loop
-Inv-loop width step words₀ o₀ words o = (o ≤ tensorCount) × (words ≡ front o (timesAt width step) words₀)
+Inv-loop n self words₀ o₀ words o = (o ≤ tensorCount) × (words ≡ front o (timesAt n self) words₀)
 
 abbrev μ-loop : tie.MeasureT-loop
-μ-loop width step words₀ o₀ words o = tensorCount - o
+μ-loop n self words₀ o₀ words o = tensorCount - o
 
 loop-holds : tie.Need-loop-holds Inv-loop μ-loop
-loop-holds c = (omega arith, sym (front-none (timesAt (c .args .width) (c .args .t1)) _))
+loop-holds c = (omega arith, sym (front-none (timesAt (c .args .n) (c .args .t1)) _))
 
 mul-scale : tie.Need-mul-scale Inv-loop μ-loop
 mul-scale c = omega arith
@@ -51,17 +51,17 @@ loop-again : tie.Need-loop-again Inv-loop μ-loop
 loop-again c =
     let l = c .before .before .before .loop in
     let s = c .before .before .before .before in
-    (omega arith, next-place (timesAt (s .args .width) (s .args .t1)) _ (omega arith) (l .inv .1) (c .scale .ensures))
+    (omega arith, next-place (timesAt (s .args .n) (s .args .t1)) _ (omega arith) (l .inv .1) (c .scale .ensures))
 
 returns : tie.Need-returns Inv-loop μ-loop
 returns c =
     let l = c .before .loop in
     let s = c .before .before in
     let z : l .o ≡ tensorCount = omega arith in
-    by-places (timesAt (s .args .width) (s .args .t1)) _ _ (rw z at (l .inv .1)) (λ o. refl)
+    by-places (timesAt (s .args .n) (s .args .t1)) _ _ (rw z at (l .inv .1)) (λ o. refl)
 
-pub leap-of-spec : {M : Type 1} → statement M
-leap-of-spec =
+pub times-spec : {M : Type 1} → statement M
+times-spec =
     tie.close
     (tie.spec
     Inv-loop
