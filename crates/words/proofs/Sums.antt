@@ -2,7 +2,7 @@
 -- Assumes nothing.
 use mathlib.Core.Path.{_≡_, refl, sym}
 use mathlib.Core.List.{List, [], _∷_, _++_, map}
-use mathlib.Core.Bool.{Bool, true, false, not, _&&_, _||_}
+use mathlib.Core.Bool.{Bool, true, false, not, _&&_, _||_, true≢false}
 use lib.Dec.{T}
 use Prim.Native.Nat.{ℕ, zero, suc, _+_, _*_, _≤_, _<_}
 use native.Mathlib.Nat.{add-zero, add-suc, add-assoc, mul-zero, mul-suc, mul-pos, mul-le-mul, mul-le-mul-left, mul-le-mul-right}
@@ -63,6 +63,11 @@ and-split false b t = absurd t
 pub and-join : (a b : Bool) → T a → T b → T (a && b)
 and-join true b t u = u
 and-join false b t u = t
+
+-- two tests that are true together are true each
+pub both-true : (a b : Bool) → (a && b) ≡ true → (a ≡ true) × (b ≡ true)
+both-true true b e = (refl, e)
+both-true false b e = absurd (true≢false (sym e))
 
 -- a test that is asked where another passes
 pub where-split : (a b : Bool) → T (not a || b) → T a → T b

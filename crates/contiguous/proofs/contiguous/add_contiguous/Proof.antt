@@ -1,6 +1,6 @@
 -- `add_contiguous` meets its contract: where it isn't the first panel, or beta is 1, the old word is taken as it is; where alpha is 1, so is the sum.
 -- Assumes nothing.
-use mathlib.Core.Path.{_≡_, refl, ap, sym, _∙_}
+use mathlib.Core.Path.{_≡_, refl, ap, _∙_}
 use mathlib.Core.Bool.{Bool, true, false, not, _&&_, cond, true≢false}
 use Prim.Native.Nat.{ℕ, _+_, _*_}
 use native.Mathlib.Nat.{one-mul}
@@ -11,6 +11,7 @@ use Rattle.words.specs.Words.{word}
 use Rattle.words.specs.Loops.{put}
 use Rattle.words.proofs.Lists.{eqb-true}
 use Rattle.words.proofs.Loops.{each-ext}
+use Rattle.words.proofs.Sums.{both-true}
 use Rattle.accumulate.specs.Added.{addedTo}
 use Rattle.contiguous.proofs.contiguous.add_contiguous.Statement.{statement}
 use Rattle.contiguous.proofs.contiguous.add_contiguous.Tie as tie
@@ -26,8 +27,7 @@ kept true beta w h = go (eqb beta 1) refl h
 
 -- else beta is applied to it
 scaled : (first : Bool) (beta w : ℕ) → (first && not (eqb beta 1)) ≡ true → cond first (beta * w) w ≡ beta * w
-scaled true beta w h = refl
-scaled false beta w h = absurd (true≢false (sym h))
+scaled first beta w h = rw (both-true first (not (eqb beta 1)) h .0)
 
 add-by-beta-requires : tie.Need-add-by-beta-requires
 add-by-beta-requires c κs = search needs

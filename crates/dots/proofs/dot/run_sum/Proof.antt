@@ -1,7 +1,7 @@
 -- `run_sum` meets its contract: where both steps are 1 the places stand one after the other, and do not wrap.
 -- Assumes nothing.
-use mathlib.Core.Path.{_≡_, refl, ap, sym, _∙_}
-use mathlib.Core.Bool.{Bool, true, false, _&&_, true≢false}
+use mathlib.Core.Path.{_≡_, ap, _∙_}
+use mathlib.Core.Bool.{true, _&&_}
 use Prim.Native.Nat.{ℕ, _+_, _^_, _≤_, _<_}
 use native.Mathlib.Omega.{arith}
 use borrow.Author.Needs.{needs}
@@ -11,6 +11,7 @@ use lib.ListN.{length}
 use Rattle.words.specs.Words.{word}
 use Rattle.words.proofs.Lists.{eqb-true}
 use Rattle.words.proofs.Modular.{row-inside, row-place}
+use Rattle.words.proofs.Sums.{both-true}
 use Rattle.dots.specs.Dot.{dot}
 use Rattle.dots.proofs.Products.{dot-ext}
 use Rattle.dots.proofs.dot.run_sum.Statement.{statement}
@@ -18,13 +19,10 @@ use Rattle.dots.proofs.dot.run_sum.Tie as tie
 
 -- what the test says
 in-rows : (p q n : ℕ) → (eqb p 1 && (eqb q 1 && leb 1 n)) ≡ true → (p ≡ 1) × (q ≡ 1) × (1 ≤ n)
-in-rows p q n e = go (eqb p 1) (eqb q 1) (leb 1 n) refl refl refl e
-  where
-    go : (x y z : Bool) → eqb p 1 ≡ x → eqb q 1 ≡ y → leb 1 n ≡ z → (x && (y && z)) ≡ true → (p ≡ 1) × (q ≡ 1) × (1 ≤ n)
-    go true true true a b c _ = (eqb-true p 1 a, eqb-true q 1 b, leb-true 1 n c)
-    go true true false _ _ _ h = absurd (true≢false (sym h))
-    go true false z _ _ _ h = absurd (true≢false (sym h))
-    go false y z _ _ _ h = absurd (true≢false (sym h))
+in-rows p q n e =
+    let x = both-true (eqb p 1) (eqb q 1 && leb 1 n) e in
+    let y = both-true (eqb q 1) (leb 1 n) (x .1) in
+    (eqb-true p 1 (x .0), eqb-true q 1 (y .0), leb-true 1 n (y .1))
 
 row-sum-requires : tie.Need-row-sum-requires
 row-sum-requires c κs =

@@ -4,7 +4,7 @@
 -- Assumes nothing.
 use mathlib.Core.Path.{_≡_, refl, sym, ap, _∙_, subst}
 use mathlib.Core.Logic.{⊎-elim}
-use mathlib.Core.Bool.{Bool, true, false, cond, _&&_, true≢false}
+use mathlib.Core.Bool.{Bool, true, false, cond, _&&_}
 use mathlib.Core.List.{List, [], _∷_, map}
 use Prim.Native.Nat.{ℕ, _+_, _-_, _<_, _≤_}
 use native.Mathlib.Omega.{arith}
@@ -12,6 +12,7 @@ use borrow.Author.Tests.{ltb-true}
 use lib.Dec.{ltb}
 use lib.ListN.{length, getD, set, length-set}
 use Rattle.words.specs.Lists.{keep, cons-if}
+use Rattle.words.proofs.Sums.{both-true}
 use Rattle.words.proofs.Tabulate.{from, from-end, from-next, length-firstOf}
 use Rattle.limits.specs.Limits.{labelsLimit}
 use Rattle.labels.specs.Labels.{labels}
@@ -70,10 +71,6 @@ module _ (f : ℕ → Label) (p : ℕ → Bool) (cs : List ℕ) (count i : ℕ) 
         subst (λ (ls : List Label). Folding ls left all)
         (ap (λ (ls : List Label). addTo ls (asLabel l)) d ∙ sym (stored dims n k l q b at (rw eb at j) (rw eb at w) (rw eb at ea)))
         (turn-add x)
-
-both-true : (a b : Bool) → (a && b) ≡ true → (a ≡ true) × (b ≡ true)
-both-true true b e = (refl, e)
-both-true false b e = absurd (true≢false (sym e))
 
 not-above : (b : Bool) (n : ℕ) → cond b (n - 1) n ≤ n
 not-above true n = omega arith

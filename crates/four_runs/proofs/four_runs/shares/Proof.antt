@@ -1,19 +1,15 @@
 -- `shares` meets its contract: each test that it joins is one of the facts.
 -- Assumes nothing.
-use mathlib.Core.Path.{_≡_, refl, sym}
-use mathlib.Core.Bool.{Bool, true, false, _&&_, true≢false}
+use mathlib.Core.Path.{_≡_, refl}
 use borrow.Author.Needs.{needs}
 use borrow.Author.Tests.{eqb-true}
+use Rattle.words.proofs.Sums.{both-true}
 use Rattle.contraction.specs.Operands.{A}
 use Rattle.offsets.specs.declared.offsets.Offsets.{Offsets}
 use Rattle.offsets.specs.Offsets.{wordsIn}
 use Rattle.four_lanes.proofs.ByRun.{by-run}
 use Rattle.four_runs.proofs.four_runs.shares.Statement.{statement}
 use Rattle.four_runs.proofs.four_runs.shares.Tie as tie
-
-both : (p q : Bool) → (p && q) ≡ true → (p ≡ true) × (q ≡ true)
-both true q e = (refl, e)
-both false q e = absurd (true≢false (sym e))
 
 element-copy-out-a : tie.Need-element-copy-out-a
 element-copy-out-a c = search needs
@@ -36,10 +32,10 @@ element-copy-out-same-3 c = search needs
 returns : tie.Need-returns
 returns c e =
     let x = c .before .before .before .before .before .before .args in
-    let p = both _ _ e in
-    let l = both _ _ (p .0) in
-    let r = both _ _ (p .1) in
-    let s = both _ _ (r .0) in
+    let p = both-true _ _ e in
+    let l = both-true _ _ (p .0) in
+    let r = both-true _ _ (p .1) in
+    let s = both-true _ _ (r .0) in
     record {
       along = eqb-true _ _ (l .0);
       still = eqb-true _ _ (l .1);

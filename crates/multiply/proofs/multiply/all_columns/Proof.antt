@@ -2,7 +2,7 @@
 -- eight columns, or four, or one. The measure is how many columns are left.
 -- Assumes nothing.
 use mathlib.Core.Path.{_≡_, refl, ap, sym, _∙_}
-use mathlib.Core.Bool.{Bool, true, false, _&&_, true≢false}
+use mathlib.Core.Bool.{true, _&&_}
 use mathlib.Core.List.{List}
 use Prim.Native.Nat.{ℕ, _+_, _-_, _<_, _≤_}
 use native.Mathlib.Omega.{arith}
@@ -14,6 +14,7 @@ use lib.Dec.{leb, lit<}
 use lib.ListN.{length}
 use Rattle.words.specs.Loops.{each}
 use Rattle.words.proofs.Loops.{each-next, each-add}
+use Rattle.words.proofs.Sums.{both-true}
 use Rattle.limits.specs.Limits.{blockLimit}
 use Rattle.block.specs.Places.{placeOf}
 use Rattle.columns.specs.Stored.{columnStored}
@@ -25,14 +26,10 @@ use Rattle.multiply.proofs.multiply.all_columns.Tie as tie
 turn-more : (n : ℕ) (body : ℕ → List ℕ → List ℕ) (c : ℕ) (d₀ : List ℕ) {d e : List ℕ} → d ≡ each c body d₀ → e ≡ each n (λ q. body (c + q)) d → e ≡ each (c + n) body d₀
 turn-more n body c d₀ i j = j ∙ ap (each n (λ q. body (c + q))) i ∙ sym (each-add c n body d₀)
 
-and-right : (a b : Bool) → a && b ≡ true → b ≡ true
-and-right true b h = h
-and-right false b h = absurd (true≢false (sym h))
-
 -- n columns are left where the test says so
 many-left : (n rows count c : ℕ) → 0 < n → leb 5 rows && leb n (count - c) ≡ true → c + n ≤ count
 many-left n rows count c some h =
-    let l : n ≤ count - c = leb-true n (count - c) (and-right (leb 5 rows) (leb n (count - c)) h) in
+    let l : n ≤ count - c = leb-true n (count - c) (both-true (leb 5 rows) (leb n (count - c)) h .1) in
     omega arith
 
 -- the numbers of the columns are small

@@ -1,16 +1,13 @@
 -- `suits_four` meets its contract: each test that it joins is one of the facts. With no label behind the first there is nothing to look at.
 -- Assumes nothing.
-use mathlib.Core.Path.{_≡_, refl, sym}
-use mathlib.Core.Bool.{Bool, true, false, _&&_, true≢false}
+use mathlib.Core.Path.{_≡_, sym}
+use mathlib.Core.Bool.{Bool, true, _&&_, true≢false}
 use native.Mathlib.Omega.{arith}
 use borrow.Author.Needs.{needs}
 use borrow.Author.Tests.{ltb-true, eqb-true, lt-ltb, eq-eqb}
+use Rattle.words.proofs.Sums.{both-true}
 use Rattle.next_runs.proofs.next_runs.suits_four.Statement.{statement}
 use Rattle.next_runs.proofs.next_runs.suits_four.Tie as tie
-
-both-true : (a b : Bool) → (a && b) ≡ true → (a ≡ true) × (b ≡ true)
-both-true true b e = (refl, e)
-both-true false b e = absurd (true≢false (sym e))
 
 true-both : (a b : Bool) → a ≡ true → b ≡ true → (a && b) ≡ true
 true-both a b p q = rw (p, q)

@@ -1,12 +1,13 @@
 -- `start_from_c` meets its contract: it copies just where C is named and the panel is the first.
 -- Assumes nothing.
-use mathlib.Core.Path.{_≡_, refl, sym, _∙_}
-use mathlib.Core.Bool.{Bool, true, false, _&&_, true≢false}
+use mathlib.Core.Path.{_≡_, refl}
+use mathlib.Core.Bool.{Bool, true, false, _&&_}
 use mathlib.Core.List.{List}
 use Prim.Native.Nat.{ℕ}
 use lib.Dec.{eqb}
 use denote.Ref.{now}
 use borrow.Author.Needs.{needs}
+use Rattle.words.proofs.Sums.{both-true}
 use Rattle.plan.specs.declared.plan.Plan.{Plan}
 use Rattle.tiles.specs.declared.grid.Tile.{Tile}
 use Rattle.tiles.specs.Cut.{Cut}
@@ -15,15 +16,10 @@ use Rattle.phases.specs.Phases.{fromC, begun}
 use Rattle.phases.proofs.phases.start_from_c.Statement.{statement}
 use Rattle.phases.proofs.phases.start_from_c.Tie as tie
 
--- both hold where both together do
-first-of : (a b : Bool) → (a && b) ≡ true → a ≡ true
-first-of true b e = refl
-first-of false b e = absurd (true≢false (sym e))
-
 copy-c-requires : tie.Need-copy-c-requires
 copy-c-requires c κs =
     let q = c .before .before .before .before .before .pre in
-    (q .0, q .1, q .2 (first-of _ _ (c .before .if1 .taken)), q .3)
+    (q .0, q .1, q .2 (both-true _ _ (c .before .if1 .taken) .0), q .3)
 
 same-length : tie.Need-same-length
 same-length c = search needs
