@@ -3,13 +3,14 @@
 use mathlib.Core.Path.{_≡_, refl, sym, ap, _∙_}
 use mathlib.Core.List.{List}
 use Prim.Native.Nat.{ℕ, _+_, _*_, _≤_}
-use native.Mathlib.Nat.{mul-comm}
+use native.Mathlib.Nat.{add-comm, mul-comm}
 use native.Mathlib.Numerals.{add-one}
 use native.Mathlib.Omega.{arith}
 use lib.ListN.{length, getD, replicate, getD-replicate}
 use Rattle.words.specs.Words.{word}
 use Rattle.words.specs.Sums.{sumTo}
 use Rattle.words.proofs.Modular.{word-add-left}
+use Rattle.words.proofs.Sums.{sumTo-ext}
 use Rattle.words.proofs.Store.{length-puts, puts-at}
 use Rattle.limits.specs.Limits.{blockLimit}
 use Rattle.lanes.specs.LaneProducts.{productsAdded, scaled}
@@ -56,18 +57,23 @@ module _ (work : List ℕ) (rows count from cols : ℕ) (few : count ≤ blockLi
   summed-turn d {by} s q e =
       one-more count few (columnSum work rows from cols d) (columnSum work rows from cols (d + 1)) (scaled work (rows * d) by) s e (λ r. rw (q, add-one))
 
--- ---- those of row r along the columns, whose lanes begin at `behind`
-abbrev pub rowSums : List ℕ → ℕ → ℕ → ℕ → ℕ → ℕ → ℕ → ℕ
-rowSums work rows behind cols r d c = columnSum work rows (behind + c) cols d r
+-- ---- those of the words of lanes, which begin at `base`
+abbrev pub laneSums : List ℕ → ℕ → ℕ → ℕ → ℕ → ℕ → ℕ → ℕ
+laneSums work base width from step d i = columnSum work width from step d (base + i)
 
-module _ (work : List ℕ) (rows behind cols count r : ℕ) (few : count ≤ blockLimit) where
-  pub row-none : Summing count (rowSums work rows behind cols r 0) (replicate 64 0)
+module _ (work : List ℕ) (base width count from step : ℕ) (few : count ≤ blockLimit) where
+  pub lanes-none : Summing count (laneSums work base width from step 0) (replicate 64 0)
   unfolding columnSum sumTo
-  row-none = none-summed count few (rowSums work rows behind cols r 0) (λ c. refl)
+  lanes-none = none-summed count few (laneSums work base width from step 0) (λ i. refl)
 
-  pub row-turn : (d : ℕ) {by : ℕ} {sums next : List ℕ} → Summing count (rowSums work rows behind cols r d) sums → by ≡ getD work (rows * d + r) 0
-      → next ≡ productsAdded count (scaled work (behind + cols * d) by) sums → Summing count (rowSums work rows behind cols r (d + 1)) next
+  pub lanes-turn : (d : ℕ) {by : ℕ} {sums next : List ℕ} → Summing count (laneSums work base width from step d) sums → by ≡ getD work (from + step * d) 0
+      → next ≡ productsAdded count (scaled work (base + width * d) by) sums → Summing count (laneSums work base width from step (d + 1)) next
   unfolding columnSum sumTo
-  row-turn d {by} s q e =
-      one-more count few (rowSums work rows behind cols r d) (rowSums work rows behind cols r (d + 1)) (scaled work (behind + cols * d) by) s e
-      (λ c. let place : behind + cols * d + c ≡ behind + c + cols * d = omega arith in rw (q, add-one, place) (ap (λ (y : ℕ). rowSums work rows behind cols r d c + y) (mul-comm _ _)))
+  lanes-turn d {by} s q e =
+      one-more count few (laneSums work base width from step d) (laneSums work base width from step (d + 1)) (scaled work (base + width * d) by) s e
+      (λ i. let place : base + width * d + i ≡ width * d + (base + i) = omega arith in rw (q, add-one, place))
+
+-- a sum over the depth is the same with A and B exchanged
+pub exchanged : (work : List ℕ) (rows from cols depth r : ℕ) → columnSum work rows from cols depth r ≡ columnSum work cols r rows depth from
+unfolding columnSum
+exchanged work rows from cols depth r = sumTo-ext depth (λ d h. rw (add-comm (rows * d) r, add-comm from (cols * d)) (mul-comm _ _))

@@ -4,6 +4,13 @@ use Prim.Native.Nat.{ℕ, _+_, _*_, _≤_}
 use Rattle.words.specs.Loops.{Within}
 use Rattle.limits.specs.Limits.{blockLimit}
 
+-- sums can be formed side by side, for the first `count` words of lanes, each times one word, from a slice of `size` words
+pub record LanesSummable (base width count from step depth size : ℕ) : Type 0 where
+  pub fits : count ≤ width  -- each word has its place in the lanes
+  pub few : count ≤ blockLimit  -- and its sum
+  pub lanes : base + width * depth ≤ size  -- the lanes are inside
+  pub words : Within depth (λ d. from + step * d) size  -- and so are the words that they are times
+
 -- the sums of a column can be formed, for `count` rows, from a slice of `size` words
 pub record Summable (rows count from cols depth size : ℕ) : Type 0 where
   pub fits : count ≤ rows  -- each row has its place in packed A's lanes

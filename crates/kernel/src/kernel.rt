@@ -5,27 +5,29 @@ ghost use Rattle.words.specs.Words.{word};
 ghost use Rattle.words.specs.Loops.{Within};
 ghost use Rattle.limits.specs.Limits.{blockLimit};
 ghost use Rattle.kernel.specs.Kernel.{columnSum, ColumnSums};
-ghost use Rattle.kernel.specs.KernelNeeds.{Summable, RowSummable};
+ghost use Rattle.kernel.specs.KernelNeeds.{LanesSummable, Summable, RowSummable};
 use lanes::lanes::add_scaled;
 use limits::limits::Limits;
 
-// The sums of a column side by side: each lane of packed A times one word of packed B.
+// Sums side by side, one for each of the first `count` words of a lane: lanes of `width` words from `base` on, each times one word. Those are `step` apart from
+// `from` on.
 fn lane_by_lane(
     work: &[u32],
-    rows: usize,
+    base: usize,
+    width: usize,
     count: usize,
     from: usize,
-    cols: usize,
+    step: usize,
     depth: usize,
 ) -> [u32; Limits::BLOCK]
-    requires { ⌜ Summable rows count from cols depth (length (now work)) ⌝ }
-    ensures { λ r. ⌜ ColumnSums count (columnSum (now (work .entry)) rows from cols depth) r ⌝ }
+    requires { ⌜ LanesSummable base width count from step depth (length (now work)) ⌝ }
+    ensures { λ s. ⌜ ColumnSums count (λ i. columnSum (now (work .entry)) width from step depth (base + i)) s ⌝ }
 {
     let mut sums = [0u32; Limits::BLOCK];
     let mut d: usize = 0;
     while d < depth {
-        let by = work[from + cols * d];
-        add_scaled(&mut sums, work, rows * d, count, by);
+        let by = work[from + step * d];
+        add_scaled(&mut sums, work, base + width * d, count, by);
         d += 1;
     }
     sums
@@ -81,7 +83,7 @@ pub fn column(
     ensures { λ r. ⌜ ColumnSums count (columnSum (now (work .entry)) rows from cols depth) r ⌝ }
 {
     if count > 4 {
-        lane_by_lane(work, rows, count, from, cols, depth)
+        lane_by_lane(work, 0, rows, count, from, cols, depth)
     } else {
         row_by_row(work, rows, count, from, cols, depth)
     }
@@ -101,12 +103,5 @@ pub fn row_lanes(
     requires { ⌜ RowSummable rows behind cols count r depth (length (now work)) ⌝ }
     ensures { λ s. ⌜ ColumnSums count (λ c. columnSum (now (work .entry)) rows (behind + c) cols depth r) s ⌝ }
 {
-    let mut sums = [0u32; Limits::BLOCK];
-    let mut d: usize = 0;
-    while d < depth {
-        let by = work[rows * d + r];
-        add_scaled(&mut sums, work, behind + cols * d, count, by);
-        d += 1;
-    }
-    sums
+    lane_by_lane(work, behind, cols, count, r, rows, depth)
 }

@@ -1,86 +1,24 @@
--- `row_lanes` meets its contract. The invariant: d is at most `depth`, and the sums are those of the first d depth counts. The measure is how much depth is left.
+-- `row_lanes` meets its contract: a row's sums are those of packed B's lanes, with A and B exchanged.
 -- Assumes nothing.
-use mathlib.Core.Path.{_≡_, refl}
-use Prim.Native.Nat.{_-_, _*_, _≤_}
-use native.Mathlib.Nat.{le-refl}
+use mathlib.Core.Path.{ap, sym, _∙_}
 use native.Mathlib.Omega.{arith}
-use Rattle.words.proofs.Lanes.{lane-inside}
-use Rattle.kernel.proofs.Columns.{Summing, rowSums, row-none, row-turn}
+use Prim.Native.Nat.{ℕ, _+_}
+use Rattle.words.specs.Words.{word}
+use Rattle.kernel.proofs.Columns.{exchanged}
 use Rattle.kernel.proofs.kernel.row_lanes.Statement.{statement}
 use Rattle.kernel.proofs.kernel.row_lanes.Tie as tie
 
-abbrev Inv-loop : tie.InvT-loop
-Inv-loop work rows behind cols count r depth sums₀ d₀ sums d = (d ≤ depth) × Summing count (rowSums work rows behind cols r d) sums
+lane-by-lane-requires : tie.Need-lane-by-lane-requires
+lane-by-lane-requires c κs =
+    let p = c .before .pre in
+    record { fits = p .fits; few = p .few; lanes = p .right; words = record { each = λ d h. omega (arith, p .left .each d h) } }
 
-abbrev μ-loop : tie.MeasureT-loop
-μ-loop work rows behind cols count r depth sums₀ d₀ sums d = depth - d
-
-loop-holds : tie.Need-loop-holds Inv-loop μ-loop
-loop-holds c =
-    let s = c .before in
-    (omega arith, row-none (s .args .work .now) (s .args .rows) (s .args .behind) (s .args .cols) (s .args .count) (s .args .r) (s .pre .few))
-
-mul-by : tie.Need-mul-by Inv-loop μ-loop
-mul-by c = omega (arith, c .before .before .before .pre .left .each (c .before .loop .d) (omega arith))
-
-add-by : tie.Need-add-by Inv-loop μ-loop
-add-by c = omega (arith, c .before .before .before .pre .left .each (c .before .loop .d) (omega arith))
-
-mul-by-2 : tie.Need-mul-by-2 Inv-loop μ-loop
-mul-by-2 c = omega (arith, c .before .before .before .pre .left .each (c .before .loop .d) (omega arith))
-
-shared-slice-read-by : tie.Need-shared-slice-read-by Inv-loop μ-loop
-shared-slice-read-by c = c .before .before .before .before .pre .left .each (c .before .before .loop .d) (omega arith)
-
-mul-add-scaled : tie.Need-mul-add-scaled Inv-loop μ-loop
-mul-add-scaled c =
-    let s = c .before .before .before .before .before in
-    omega (arith, lane-inside (s .args .cols) {d = c .before .before .before .loop .d} (omega arith) (le-refl (s .args .depth)) (le-refl (s .args .cols * s .args .depth)), s .pre .right)
-
-add-add-scaled : tie.Need-add-add-scaled Inv-loop μ-loop
-add-add-scaled c =
-    let s = c .before .before .before .before .before in
-    omega (arith, lane-inside (s .args .cols) {d = c .before .before .before .loop .d} (omega arith) (le-refl (s .args .depth)) (le-refl (s .args .cols * s .args .depth)), s .pre .right)
-
-add-scaled-requires : tie.Need-add-scaled-requires Inv-loop μ-loop
-add-scaled-requires c κs =
-    let s = c .before .before .before .before .before in
-    (s .pre .few, omega (arith, lane-inside (s .args .cols) {d = c .before .before .before .loop .d} (omega arith) (le-refl (s .args .depth)) (le-refl (s .args .cols * s .args .depth)), s .pre .right, s .pre .fits))
-
-add-d : tie.Need-add-d Inv-loop μ-loop
-add-d c = omega arith
-
-loop-less : tie.Need-loop-less Inv-loop μ-loop
-loop-less c = omega arith
-
-loop-again : tie.Need-loop-again Inv-loop μ-loop
-loop-again c =
-    let s = c .before .before .before .before .before .before in
-    let a = s .args in
-    let l = c .before .before .before .before .loop in
-    (omega arith, row-turn (a .work .now) (a .rows) (a .behind) (a .cols) (a .count) (a .r) (s .pre .few) (l .d) (l .inv .1) refl (c .add-scaled .ensures))
-
-returns : tie.Need-returns Inv-loop μ-loop
+returns : tie.Need-returns
 returns c =
-    let l = c .before .loop in
-    let e : l .d ≡ c .before .before .before .args .depth = omega arith in
-    rw e at (l .inv .1 .holds)
+    let a = c .before .before .args in
+    record {
+      each = λ i h. c .lane-by-lane .ensures .each i h ∙ sym (ap (word 32) (exchanged (a .work .now) (a .rows) (a .behind + i) (a .cols) (a .depth) (a .r)));
+    }
 
 pub row-lanes-spec : {M : Type 1} → statement M
-row-lanes-spec =
-    tie.close
-    (tie.spec
-    Inv-loop
-    μ-loop
-    loop-holds
-    mul-by
-    add-by
-    mul-by-2
-    shared-slice-read-by
-    mul-add-scaled
-    add-add-scaled
-    add-scaled-requires
-    add-d
-    loop-less
-    loop-again
-    returns)
+row-lanes-spec = tie.close (tie.spec lane-by-lane-requires returns)
