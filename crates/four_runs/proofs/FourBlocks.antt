@@ -7,11 +7,10 @@ use mathlib.Core.List.{List}
 use mathlib.Core.Logic.{_≢_}
 use Prim.Native.Nat.{ℕ, _+_, _<_}
 use native.Mathlib.Omega.{arith}
-use lib.ListN.{getD, set}
-use lib.Seq.{getD-set-other, set-comm}
-use Rattle.words.specs.Loops.{each, put}
+use Rattle.words.specs.Loops.{each}
 use Rattle.words.specs.Stepped.{stepped}
 use Rattle.words.proofs.Loops.{each-ext, each-add, each-swap, each-zip}
+use Rattle.words.proofs.Store.{put-pass}
 use Rattle.contraction.specs.Operands.{Operand, A, D}
 use Rattle.groups.specs.Groups.{Label}
 use Rattle.offsets.specs.declared.offsets.Offsets.{Offsets}
@@ -21,14 +20,6 @@ use Rattle.output_run.specs.FilledOutput.{filled}
 use Rattle.outputs.proofs.Blocks.{steps-more}
 use Rattle.four_sums.specs.FourRunSums.{Shared}
 use Rattle.four_runs.specs.FourRuns.{fourFilled, Apart}
-
--- two stores at different places may change places
-put-pass : (f g : ℕ → ℕ) (x y : ℕ) → x ≢ y → (s : List ℕ) → put f x (put g y s) ≡ put g y (put f x s)
-unfolding put
-put-pass f g x y ne s =
-    ap (λ (w : ℕ). set (set s y (g (getD s y 0))) x (f w)) (getD-set-other s y x (g (getD s y 0)) 0 ne)
-    ∙ set-comm s y x (g (getD s y 0)) (f (getD s x 0)) (λ e. ne (sym e))
-    ∙ ap (λ (w : ℕ). set (set s x (f (getD s x 0))) y (g w)) (sym (getD-set-other s x y (f (getD s x 0)) 0 (λ e. ne (sym e))))
 
 filled-pass : (named : Bool) (alpha beta : ℕ) (g : List Label) (a b c : List ℕ) (x y : Operand → ℕ) → x D ≢ y D → (s : List ℕ)
     → filled named alpha beta g a b c x (filled named alpha beta g a b c y s) ≡ filled named alpha beta g a b c y (filled named alpha beta g a b c x s)

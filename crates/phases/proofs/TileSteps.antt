@@ -27,7 +27,7 @@ use Rattle.copy.specs.Copied.{columnCopied}
 use Rattle.copy.specs.CopyNeeds.{Copyable}
 use Rattle.columns.specs.declared.column_stores.Packing.{Packing}
 use Rattle.columns.specs.ColumnNeeds.{Multipliable}
-use Rattle.columns.specs.Stored.{tileSum}
+use Rattle.columns.specs.Stored.{tileSum, columnStored}
 use Rattle.tiles.specs.declared.grid.Tile.{Tile}
 use Rattle.tiles.specs.Cut.{Cut}
 use Rattle.tiles.specs.Grid.{Fits}
@@ -48,12 +48,12 @@ packing G filled = record { rows = G .rows; cols = G .cols; depth = G .depth; fi
 module _ (p : Plan) (G : Cut) (x : Tile) where
   -- ---- a tile of an output tensor
   module _ (o : Operand) {rows cols : Block} (r : SideBlock p G x o left rows) (c : SideBlock p G x o right cols) {from : ℕ} (e : from ≡ atBatch p (x .batch) o) where
-    place-out : (i j : ℕ) → i < rows .count → j < cols .count
+    pub place-out : (i j : ℕ) → i < rows .count → j < cols .count
         → placeOf (placeOf from (cols .offsets) j) (rows .offsets) i ≡ placeOut p o (x .batch) (x .row * G .rows + i) (x .column * G .cols + j)
     unfolding placeOut
     place-out i j h l = rw (e, c .offsets j (rw (c .used) at l), r .offsets i (rw (r .used) at h))
 
-    places-in : {n : ℕ} → Begins G x → OutputClear p G o n → PlacesIn from (cols .offsets) (cols .count) (rows .offsets) (rows .count) n
+    pub places-in : {n : ℕ} → Begins G x → OutputClear p G o n → PlacesIn from (cols .offsets) (cols .count) (rows .offsets) (rows .count) n
     places-in begins clear =
         record {
           each = λ j h. record { each = λ i m. rw (place-out i j m h) (clear .inside _ _ _ (begins .batch) (count-in p G x left r m) (count-in p G x right c h)) };
@@ -87,6 +87,46 @@ module _ (p : Plan) (G : Cut) (x : Tile) where
             (placeOut p D (x .batch) (x .row * G .rows + i) (x .column * G .cols + j)) xs
         one i j h l xs = rw (place-out D u v f i j h l, place-out C r c e i j (rw (r .used, ← u .used) h) (rw (c .used, ← v .used) l))
 
+  -- ---- sums are added to D's words
+  module _ {rows cols : Block} (r : SideBlock p G x D left rows) (c : SideBlock p G x D right cols) {from : ℕ} (e : from ≡ atBatch p (x .batch) D)
+      (alpha beta : ℕ) {first : Bool} (z : first ≡ eqb (x .panel) 0) (a b : List ℕ) where
+    abbrev S : Setting
+    S = planSetting p G false alpha beta a b []
+
+    abbrev factors : Factors
+    factors = record { alpha = alpha; beta = beta; first = first }
+
+    -- the sum of each row and column is their panel sum
+    module _ (sum : ℕ → ℕ → ℕ) (is : (i j : ℕ) → i < sideWidth G x left → j < sideWidth G x right
+        → sum i j ≡ panelSum S (x .batch) (x .row * G .rows + i) (x .column * G .cols + j) (x .panel)) where
+      -- what becomes of a word: to reduce the sum first changes nothing
+      word-added : (i j : ℕ) → i < sideWidth G x left → j < sideWidth G x right → (v : ℕ)
+          → addedTo factors (word 32 (sum i j)) v ≡ addPanel S (x .panel) (x .batch) (x .row * G .rows + i) (x .column * G .cols + j) v
+      unfolding addPanel planSetting
+      word-added i j h l v =
+          let y = cond first (beta * v) v in
+          sym (word-add-right 32 y (alpha * word 32 (sum i j)))
+          ∙ ap (λ (u : ℕ). word 32 (y + u)) (word-mul-right 32 alpha (sum i j))
+          ∙ word-add-right 32 y (alpha * sum i j)
+          ∙ rw (z, is i j h l)
+
+      -- the stores, one and all
+      abbrev stores : ℕ → ℕ → List ℕ → List ℕ
+      stores j i = put (addedTo factors (word 32 (sum i j))) (placeOf (placeOf from (cols .offsets) j) (rows .offsets) i)
+
+      store-added : (i j : ℕ) → i < rows .count → j < cols .count → (xs : List ℕ)
+          → stores j i xs
+          ≡ put (addPanel S (x .panel) (x .batch) (x .row * G .rows + i) (x .column * G .cols + j)) (placeOut p D (x .batch) (x .row * G .rows + i) (x .column * G .cols + j)) xs
+      unfolding put
+      store-added i j h l xs = rw (place-out D r c e i j h l) (ap (set xs _) (word-added i j (rw (r .used) at h) (rw (c .used) at l) _))
+
+      pub sums-added : (d : List ℕ) {after : List ℕ} → after ≡ each (cols .count) (λ j. each (rows .count) (stores j)) d
+          → after ≡ tileAt G (visit S) (x .batch) (x .column) (x .panel) (x .row) d
+      unfolding tileAt planSetting
+      sums-added d q =
+          q ∙ each-ext (cols .count) (λ j l. each-ext (rows .count) (λ i h. store-added i j h l)) d
+          ∙ rw (c .used, r .used)
+
   -- ---- the packed blocks are multiplied
   module _ {rows cols : Block} (r : SideBlock p G x D left rows) (c : SideBlock p G x D right cols) {from : ℕ} (e : from ≡ atBatch p (x .batch) D)
       {filled : ℕ} (f : filled ≡ panelWidth G x) where
@@ -106,15 +146,10 @@ module _ (p : Plan) (G : Cut) (x : Tile) where
 
     -- ---- what the stores leave, whichever words of A and B were packed
     module _ (alpha beta : ℕ) {first : Bool} (z : first ≡ eqb (x .panel) 0) {work : List ℕ} (a b : List ℕ) (w : PackedIn p G x a b work) where
-      abbrev S : Setting
-      S = planSetting p G false alpha beta a b []
-
-      abbrev factors : Factors
-      factors = record { alpha = alpha; beta = beta; first = first }
-
       -- the sum of a row and a column is their panel sum
       tile-sum : (i j : ℕ) → i < sideWidth G x left → j < sideWidth G x right
-          → tileSum work (packing G filled) i j ≡ panelSum S (x .batch) (x .row * G .rows + i) (x .column * G .cols + j) (x .panel)
+          → tileSum work (packing G filled) i j
+          ≡ panelSum (planSetting p G false alpha beta a b []) (x .batch) (x .row * G .rows + i) (x .column * G .cols + j) (x .panel)
       unfolding tileSum columnSum panelSum planSetting
       tile-sum i j h l =
           ap (λ (m : ℕ). sumTo m (λ d. getD work (G .rows * d + i) 0 * getD work (G .rows * G .depth + j + G .cols * d) 0)) (f ∙ sym (panel-width G (x .panel)))
@@ -123,31 +158,7 @@ module _ (p : Plan) (G : Cut) (x : Tile) where
           let behind : G .rows * G .depth + j + G .cols * d ≡ G .rows * G .depth + (G .cols * d + j) = omega arith in
           rw (ap (λ (y : ℕ). getD work y 0) front ∙ w .each left i d h m, ap (λ (y : ℕ). getD work y 0) behind ∙ w .each right j d l m))
 
-      -- what becomes of a word: to reduce the sum first changes nothing
-      word-added : (i j : ℕ) → i < sideWidth G x left → j < sideWidth G x right → (v : ℕ)
-          → addedTo factors (word 32 (tileSum work (packing G filled) i j)) v
-          ≡ addPanel S (x .panel) (x .batch) (x .row * G .rows + i) (x .column * G .cols + j) v
-      unfolding addPanel planSetting
-      word-added i j h l v =
-          let y = cond first (beta * v) v in
-          sym (word-add-right 32 y (alpha * word 32 (tileSum work (packing G filled) i j)))
-          ∙ ap (λ (u : ℕ). word 32 (y + u)) (word-mul-right 32 alpha (tileSum work (packing G filled) i j))
-          ∙ word-add-right 32 y (alpha * tileSum work (packing G filled) i j)
-          ∙ rw (z, tile-sum i j h l)
-
-      -- the stores, one and all
-      abbrev stores : ℕ → ℕ → List ℕ → List ℕ
-      stores j i = put (addedTo factors (word 32 (tileSum work (packing G filled) i j))) (placeOf (placeOf from (cols .offsets) j) (rows .offsets) i)
-
-      store-added : (i j : ℕ) → i < rows .count → j < cols .count → (xs : List ℕ)
-          → stores j i xs
-          ≡ put (addPanel S (x .panel) (x .batch) (x .row * G .rows + i) (x .column * G .cols + j)) (placeOut p D (x .batch) (x .row * G .rows + i) (x .column * G .cols + j)) xs
-      unfolding put
-      store-added i j h l xs = rw (place-out D r c e i j h l) (ap (set xs _) (word-added i j (rw (r .used) at h) (rw (c .used) at l) _))
-
-      pub multiplied : (d : List ℕ) {after : List ℕ} → after ≡ each (cols .count) (λ j. each (rows .count) (stores j)) d
-          → after ≡ tileAt G (visit S) (x .batch) (x .column) (x .panel) (x .row) d
-      unfolding tileAt planSetting
-      multiplied d q =
-          q ∙ each-ext (cols .count) (λ j l. each-ext (rows .count) (λ i h. store-added i j h l)) d
-          ∙ rw (c .used, r .used)
+      pub multiplied : (d : List ℕ) {after : List ℕ}
+          → after ≡ each (cols .count) (columnStored work (packing G filled) (record { alpha = alpha; beta = beta; first = first }) from (cols .offsets) (rows .offsets) (rows .count)) d
+          → after ≡ tileAt G (visit (planSetting p G false alpha beta a b [])) (x .batch) (x .column) (x .panel) (x .row) d
+      multiplied = sums-added r c e alpha beta z a b (tileSum work (packing G filled)) tile-sum

@@ -48,7 +48,7 @@ module _ (p : Plan) (G : Cut) (x : Tile) where
   -- ---- a side's block is packed
   module _ (s : Side) {b : Block} (r : SideBlock p G x (tensorOn s) s b) {from : ℕ} (e : from ≡ atBatch p (x .batch) (tensorOn s))
       {starts : List ℕ} {filled : ℕ} (f : filled ≡ panelWidth G x) (t : Starts (tensorOn s) from (labelsIn (planned p depth)) (x .panel * G .depth) filled starts) where
-    place-at : (l k : ℕ) → l < b .count → k < filled
+    pub place-at : (l k : ℕ) → l < b .count → k < filled
         → placeOf (getD starts k 0) (b .offsets) l ≡ placeIn p s (x .batch) (blockIn x s * tileOn G s + l) (x .panel * G .depth + k)
     unfolding placeIn
     place-at l k h m = rw (t .each k m, r .offsets l (rw (r .used) at h), e)

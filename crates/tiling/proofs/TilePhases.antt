@@ -20,6 +20,7 @@ use Rattle.tiles.proofs.Closed.{twice}
 use Rattle.tile_blocks.specs.Side.{Side, left, right}
 use Rattle.tile_blocks.specs.Planned.{placeOut, planSetting}
 use Rattle.phases.specs.Phases.{PackedIn, fromC, begun, Multiplied}
+use Rattle.thin_tile.specs.ThinTile.{tileAdded}
 use Rattle.tiling.specs.HeldPacks.{Holds}
 
 module _ (p : Plan) {G : Cut} {n : ℕ} {x : Tile} (t : TileOf G n x) (a b : List ℕ) where
@@ -34,11 +35,14 @@ module _ (p : Plan) {G : Cut} {n : ℕ} {x : Tile} (t : TileOf G n x) (a b : Lis
             ];
       }
 
-  -- so that D's words are those that the tile of the number leaves
+  -- what the tile leaves of D's words is what the tile of the number leaves
+  pub tile-numbered : (alpha beta : ℕ) (before : List ℕ) {after : List ℕ} → after ≡ tileAdded p G x alpha beta a b before → after ≡ tileStep (planSetting p G false alpha beta a b []) n before
+  unfolding visitTile planSetting
+  tile-numbered alpha beta before q = q ∙ rw (t .batch, t .column, t .panel, t .row)
+
   pub tile-stepped : {alpha beta : ℕ} {w before after : List ℕ} → ((s : Side) → Holds p G a b s n w) → Multiplied p G x alpha beta w before after
       → after ≡ tileStep (planSetting p G false alpha beta a b []) n before
-  unfolding visitTile planSetting
-  tile-stepped h m = m .tile a b (packed-in h) ∙ rw (t .batch, t .column, t .panel, t .row)
+  tile-stepped {alpha} {beta} {before = before} h m = tile-numbered alpha beta before (m .tile a b (packed-in h))
 
 -- where C is named, its words are put at the tile's places before the first panel, so that each sum starts from its word; a later panel only adds
 module _ (p : Plan) {G : Cut} {n : ℕ} {x : Tile} (t : TileOf G n x) (below : n < total G) (alpha beta : ℕ) (a b c d : List ℕ) (own : OwnPlaces G (placeOut p D) (length d)) where

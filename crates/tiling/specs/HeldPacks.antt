@@ -2,6 +2,7 @@
 -- Assumes nothing.
 use Prim.Native.Nat.{ℕ, _+_, _*_, _<_, _≤_}
 use mathlib.Core.Path.{_≡_}
+use mathlib.Core.Bool.{Bool, true, false}
 use mathlib.Core.List.{List}
 use lib.ListN.{getD}
 use Rattle.plan.specs.declared.plan.Plan.{Plan}
@@ -20,3 +21,9 @@ module _ (p : Plan) (G : Cut) (a b : List ℕ) where
   pub record HeldAfter (n : ℕ) (old new : List ℕ) : Type 0 where
     pub blocks : (s : Side) → Holds s n new
     pub rest : (i : ℕ) → packs G ≤ i → getD new i 0 ≡ getD old i 0
+
+  -- tile n was packed, as the last one of a call is; or it was not, and all words are as they were
+  pub record AfterTile (n : ℕ) (last packed : Bool) (old new : List ℕ) : Type 0 where
+    pub held : packed ≡ true → HeldAfter n old new
+    pub same : packed ≡ false → new ≡ old
+    pub end : last ≡ true → packed ≡ true

@@ -37,9 +37,11 @@ pub fn run_tiles(
         × (now (work .exit) ≡ packedLast (cutIn g) (readIn p (now (a .entry)) (now (b .entry))) (tilesFrom done count) (now (work .entry))) ⌝ }
 {
     let end = done + count;
+    let mut held = false;
     let mut t = done;
     while t < end {
-        run_tile(p, g, named, alpha, beta, a, b, c, d, work, t, t > done);
+        let last = t + 1 == end;
+        held = run_tile(p, g, named, alpha, beta, a, b, c, d, work, t, held, last);
         t += 1;
     }
     if count > 0 {

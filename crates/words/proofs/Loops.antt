@@ -65,3 +65,13 @@ module _ {S : Type 0} where
   each-zip f g (suc n) pass s =
       ap (f n) (each-swap f (g n) n (λ k h. pass k n h (omega arith)) (each n g s))
       ∙ ap (λ (u : S). f n (g n u)) (each-zip f g n (λ i j h k. pass i j h (omega arith)) s)
+
+  -- a loop in a loop the other way round, where turns of different outer counts let each other pass
+  pub each-turned : (f : ℕ → ℕ → S → S) (m n : ℕ) → ((i k j l : ℕ) → i < k → k < m → j < n → l < n → (s : S) → f i j (f k l s) ≡ f k l (f i j s)) → (s : S)
+      → each m (λ i. each n (f i)) s ≡ each n (λ j. each m (λ i. f i j)) s
+  unfolding each
+  each-turned f zero n pass s = sym (each-none (λ j. each 0 (λ i. f i j)) n (λ k h u. refl) s)
+  each-turned f (suc m) n pass s =
+      ap (each n (f m)) (each-turned f m n (λ i k j l h b. pass i k j l h (omega arith)) s)
+      ∙ each-zip (f m) (λ j. each m (λ i. f i j)) n
+      (λ i j h b u. sym (each-swap (λ k. f k j) (f m i) m (λ k c. pass k m j i c (omega arith) b (omega arith)) u)) s

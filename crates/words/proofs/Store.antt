@@ -9,7 +9,7 @@ use native.Mathlib.Decide.{decLt}
 use native.Mathlib.Numerals.{add-one}
 use native.Mathlib.Omega.{arith}
 use lib.ListN.{length, getD, set, length-set}
-use lib.Seq.{getD-set-same, getD-set-other, ext-getD}
+use lib.Seq.{getD-set-same, getD-set-other, set-comm, ext-getD}
 use Rattle.words.specs.Loops.{each, put, Within}
 use Rattle.words.proofs.Loops.{each-keeps}
 
@@ -63,6 +63,14 @@ length-put g x D = length-set D x (g (getD D x 0))
 
 pub length-each : (n : ℕ) (body : ℕ → List ℕ → List ℕ) → ((k : ℕ) (D : List ℕ) → length (body k D) ≡ length D) → (D : List ℕ) → length (each n body D) ≡ length D
 length-each n body keep D = each-keeps (λ E. length E ≡ length D) body n (λ k h E e. keep k E ∙ e) D refl
+
+-- two stores at different places may change places
+pub put-pass : (f g : ℕ → ℕ) (x y : ℕ) → x ≢ y → (s : List ℕ) → put f x (put g y s) ≡ put g y (put f x s)
+unfolding put
+put-pass f g x y ne s =
+    ap (λ (w : ℕ). set (set s y (g (getD s y 0))) x (f w)) (getD-set-other s y x (g (getD s y 0)) 0 ne)
+    ∙ set-comm s y x (g (getD s y 0)) (f (getD s x 0)) (λ e. ne (sym e))
+    ∙ ap (λ (w : ℕ). set (set s x (f (getD s x 0))) y (g w)) (sym (getD-set-other s x y (f (getD s x 0)) 0 (λ e. ne (sym e))))
 
 -- a loop of stores, one turn more
 pub put-next : (g : ℕ → ℕ → ℕ) (place : ℕ → ℕ) (D : List ℕ) (k : ℕ) {E : List ℕ} {p v : ℕ} → E ≡ each k (λ j. put (g j) (place j)) D → p ≡ place k → v ≡ g k (getD E p 0)

@@ -1,0 +1,2 @@
+// A thin tile, of up to four rows or columns, multiplied without packing.
+pub mod thin;
