@@ -10,7 +10,7 @@ ghost use Rattle.tiles.specs.Grid.{cutIn, Fits};
 ghost use Rattle.tile_blocks.specs.Planned.{GridOf, atBatch};
 ghost use Rattle.tile_blocks.specs.TilePlaces.{Begins, Starts};
 ghost use Rattle.tile_packs.specs.TilePacks.{panelWidth};
-ghost use Rattle.thin_tile.specs.ThinTile.{TileClear, tileAdded};
+ghost use Rattle.thin_tile.specs.ThinTile.{isThin, TileClear, tileAdded};
 use accumulate::accumulate::Factors;
 use contraction::contraction::Contraction;
 use limits::limits::Limits;
@@ -26,6 +26,7 @@ use tiles::grid::width_of;
 // Is a tile worth it: thin, and deep enough that packing costs more than the set-up?
 pub fn is_thin(g: Grid, at: Tile) -> bool
     requires { ⌜ Fits (cutIn g) × Begins (cutIn g) at ⌝ }
+    ensures { λ r. ⌜ r ≡ isThin (cutIn g) at ⌝ }
 {
     let counts = g.counts;
     let sizes = g.sizes;

@@ -1,4 +1,2 @@
-pub mod HeldBlocks
 pub mod PackedWork
-pub mod TilePhases
 pub mod WorkCases

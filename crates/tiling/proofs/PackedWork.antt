@@ -18,7 +18,7 @@ use Rattle.tile_blocks.specs.Side.{Side, left, right, tileOn}
 use Rattle.tile_blocks.specs.Planned.{readIn}
 use Rattle.tile_packs.specs.TilePacks.{packs, paddedWord, padded}
 use Rattle.tiling.specs.Work.{packedBlock, packed, packedLast}
-use Rattle.tiling.specs.HeldPacks.{Holds, HeldAfter}
+use Rattle.one_tile.specs.HeldPacks.{Holds, HeldAfter}
 
 module _ (G : Cut) (entry : Side → ℕ → ℕ → ℕ → ℕ) where
   pub length-packed : (n : ℕ) (work : List ℕ) → packs G ≤ length work → length (packed G entry n work) ≡ length work

@@ -1,3 +1,2 @@
-pub mod HeldPacks
 pub mod Work
 pub mod WorkCases

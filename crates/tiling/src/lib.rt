@@ -1,3 +1,2 @@
-// One tile, and tiles one after the other.
+// Tiles one after the other.
 pub mod run_tiles;
-pub mod tile;

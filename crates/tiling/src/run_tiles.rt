@@ -6,7 +6,7 @@ ghost use Rattle.tiles.specs.Grid.{cutIn};
 ghost use Rattle.tiles.specs.Setting.{walk, tilesFrom};
 ghost use Rattle.tile_blocks.specs.Planned.{GridOf, Clear, readIn, planSetting};
 ghost use Rattle.tiling.specs.Work.{packedLast};
-use super::tile::run_tile;
+use one_tile::tile::run_tile;
 use plan::plan::Plan;
 use tile_packs::packs::pad_blocks;
 use tiles::grid::Grid;

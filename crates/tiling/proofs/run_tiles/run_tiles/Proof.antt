@@ -27,7 +27,7 @@ use Rattle.tile_blocks.specs.Side.{Side, right}
 use Rattle.tile_blocks.proofs.TileParts.{tile-begins}
 use Rattle.tile_packs.specs.TilePacks.{packs, padded}
 use Rattle.tiling.specs.Work.{packedLast}
-use Rattle.tiling.specs.HeldPacks.{Holds, AfterTile}
+use Rattle.one_tile.specs.HeldPacks.{Holds, AfterTile}
 use Rattle.tiling.proofs.PackedWork.{packed-end, padded-packed}
 use Rattle.tiling.proofs.run_tiles.run_tiles.Statement.{statement}
 use Rattle.tiling.proofs.run_tiles.run_tiles.Tie as tie

@@ -22,11 +22,11 @@ use Rattle.tile_blocks.proofs.TileParts.{tile-begins}
 use Rattle.tile_packs.specs.TilePacks.{packs, renewed}
 use Rattle.phases.specs.Phases.{OutputClear, begun}
 use Rattle.thin_tile.specs.ThinTile.{TileClear, tileAdded}
-use Rattle.tiling.specs.HeldPacks.{HeldAfter}
-use Rattle.tiling.proofs.HeldBlocks.{some-rows, held-after}
-use Rattle.tiling.proofs.TilePhases.{tile-numbered, tile-stepped, tile-started}
-use Rattle.tiling.proofs.tile.run_tile.Statement.{statement}
-use Rattle.tiling.proofs.tile.run_tile.Tie as tie
+use Rattle.one_tile.specs.HeldPacks.{HeldAfter}
+use Rattle.one_tile.proofs.HeldBlocks.{some-rows, held-after}
+use Rattle.one_tile.proofs.TilePhases.{tile-numbered, tile-stepped, tile-started}
+use Rattle.one_tile.proofs.tile.run_tile.Statement.{statement}
+use Rattle.one_tile.proofs.tile.run_tile.Tie as tie
 
 -- the first of two blocks has room where both have, and the second behind it
 first-room : (G : Cut) {z : ℕ} → packs G ≤ z → G .rows * G .depth ≤ z

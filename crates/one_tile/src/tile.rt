@@ -7,7 +7,7 @@ ghost use Rattle.tiles.specs.Grid.{cutIn};
 ghost use Rattle.tiles.specs.Setting.{tileStep};
 ghost use Rattle.tile_blocks.specs.Planned.{GridOf, Clear, planSetting};
 ghost use Rattle.tile_blocks.specs.Side.{right};
-ghost use Rattle.tiling.specs.HeldPacks.{Holds, AfterTile};
+ghost use Rattle.one_tile.specs.HeldPacks.{Holds, AfterTile};
 use phases::phases::multiply_into_d;
 use phases::phases::start_from_c;
 use plan::plan::Plan;

@@ -22,7 +22,7 @@ use Rattle.tiles.proofs.Cuts.{width-le}
 use Rattle.tile_blocks.specs.Side.{Side, left, right, both, sizeOn, tileOn, blockOn}
 use Rattle.tile_packs.specs.TilePacks.{packs, sideWidth, panelWidth, blockStart, workPlace, sideLanes, sidePacked, renewed}
 use Rattle.phases.specs.Phases.{PackedIn}
-use Rattle.tiling.specs.HeldPacks.{Holds, HeldAfter}
+use Rattle.one_tile.specs.HeldPacks.{Holds, HeldAfter}
 
 module _ (p : Plan) (G : Cut) (x : Tile) (s : Side) (src work : List ℕ) where
   narrow : sideWidth G x s ≤ tileOn G s

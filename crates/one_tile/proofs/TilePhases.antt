@@ -21,7 +21,7 @@ use Rattle.tile_blocks.specs.Side.{Side, left, right}
 use Rattle.tile_blocks.specs.Planned.{placeOut, planSetting}
 use Rattle.phases.specs.Phases.{PackedIn, fromC, begun, Multiplied}
 use Rattle.thin_tile.specs.ThinTile.{tileAdded}
-use Rattle.tiling.specs.HeldPacks.{Holds}
+use Rattle.one_tile.specs.HeldPacks.{Holds}
 
 module _ (p : Plan) {G : Cut} {n : ℕ} {x : Tile} (t : TileOf G n x) (a b : List ℕ) where
   -- what the work slice holds is what the product asks of it

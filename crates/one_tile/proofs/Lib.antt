@@ -1,0 +1,2 @@
+pub mod HeldBlocks
+pub mod TilePhases

@@ -1,0 +1,2 @@
+// One tile: packed and multiplied, or multiplied without packing where it is thin.
+pub mod tile;
