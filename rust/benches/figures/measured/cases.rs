@@ -32,16 +32,22 @@ fn products() -> Vec<Case> {
 /// Those in which a word of A or of B is used once.
 fn thin() -> Vec<Case> {
     vec![
-        Case::new(
-            "512×1×512, matrix times vector",
-            shapes::matrices(512, 1, 512),
-            nests::matrices::<1, 512, 1, 512, 1>,
-            pace(200, 5),
+        beside_nest(
+            0.45,
+            Case::new(
+                "512×1×512, matrix times vector",
+                shapes::matrices(512, 1, 512),
+                nests::matrices::<1, 512, 1, 512, 1>,
+                pace(200, 5),
+            ),
         ),
         Case::new("512×1×512, the same by rows of A", shapes::rows_times_vector(512), nests::lines_of_a, pace(200, 5)),
-        Case::new("1×512×512, vector times matrix", shapes::matrices(1, 512, 512), nests::lines_of_b, pace(200, 5)),
+        beside_nest(
+            0.45,
+            Case::new("1×512×512, vector times matrix", shapes::matrices(1, 512, 512), nests::lines_of_b, pace(200, 5)),
+        ),
         Case::new("1×512×512, the same by rows of B", shapes::vector_times_rows(512), nests::rows_of_b, pace(200, 5)),
-        Case::new("512×512×1, outer product", shapes::outer(512), nests::outer, pace(100, 1)),
+        beside_nest(0.27, Case::new("512×512×1, outer product", shapes::outer(512), nests::outer, pace(100, 1))),
         Case::new("512×512×1, matrix times scalar", shapes::by_scalar(512), nests::by_scalar, pace(100, 1)),
         Case::new("1×1×1,000,000, dot product", shapes::dot(), nests::dot, pace(100, 1)),
         Case::new("1×1×1, a batch of 512×512, by elements", shapes::by_elements(512), nests::by_elements, pace(15, 1)),
@@ -50,6 +56,11 @@ fn thin() -> Vec<Case> {
 
 fn pace(turns: u32, repeats: u32) -> Pace {
     Pace { turns, repeats }
+}
+
+/// The case with a ratio that is required beside its loop nest.
+fn beside_nest(least: f64, case: Case) -> Case {
+    Case { over_nest: Some(least), ..case }
 }
 
 fn large_matrices() -> Case {
