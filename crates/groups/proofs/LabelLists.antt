@@ -3,11 +3,11 @@
 use mathlib.Core.Path.{_≡_, ap, _∙_, fun-ext}
 use mathlib.Core.List.{List, [], _∷_, _++_, map, map-append}
 use Prim.Native.Nat.{ℕ, _+_, _<_}
-use lib.ListN.{length, getD, set}
+use lib.ListN.{length, getD, set, length-map}
 use lib.IntN.{ℤ}
 use Rattle.words.specs.Lists.{firstOf}
 use Rattle.words.specs.Words.{wordOf, signed}
-use Rattle.words.proofs.Tabulate.{firstOf-suc, firstOf-push}
+use Rattle.words.proofs.Tabulate.{firstOf-suc, firstOf-push, length-firstOf}
 use Rattle.layout.specs.Listed.{listed}
 use Rattle.labels.specs.Labels.{strideOf, extentOf}
 use Rattle.labels.proofs.Facts.{signed-stride}
@@ -23,6 +23,11 @@ use Rattle.groups.specs.Held.{asLabel, noDim, labelsIn}
 -- an array of which the first n places are in use
 abbrev pub holding : List Dim → ℕ → Group
 holding dims n = record { dims = dims; count = n }
+
+-- as many labels as are counted
+pub labels-count : (g : Group) → length (labelsIn g) ≡ g .count
+unfolding labelsIn
+labels-count g = length-map (firstOf (g .count) noDim (g .dims)) asLabel ∙ length-firstOf (g .count) noDim (g .dims)
 
 -- with one more stored behind them
 pub labels-push : (dims : List Dim) (n : ℕ) (l : Dim) → n < length dims → labelsIn (holding (set dims n l) (n + 1)) ≡ labelsIn (holding dims n) ++ asLabel l ∷ []

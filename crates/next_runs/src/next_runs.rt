@@ -22,7 +22,8 @@ use sums::walk::Walk;
 // Does it pay to look for four runs that share what is read of A? Not for a few outputs or depth counts, and not where A goes along with the second label.
 pub fn suits_four(step: Offsets, len: u32, deep: u32, rows: &[u64], labels: usize) -> bool
     requires { ⌜ 5 * labels ≤ length (now rows) ⌝ }
-    ensures { λ r. ⌜ (r ≡ true → SuitsFour step len deep (now (rows .entry)) labels) × (SuitsFour step len deep (now (rows .entry)) labels → r ≡ true) ⌝ }
+    ensures { λ r. ⌜ (r ≡ true → SuitsFour step len deep (now (rows .entry)) labels)
+        × (SuitsFour step len deep (now (rows .entry)) labels → r ≡ true) ⌝ }
 {
     if labels == 0 {
         return false;

@@ -1,3 +1,4 @@
 pub mod Carried
 pub mod CarriedCases
+pub mod LabelsBehind
 pub mod NextCount

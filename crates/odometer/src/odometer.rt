@@ -79,7 +79,7 @@ fn last_value(extent: u32) -> u32
 }
 
 // The rows of the labels behind a group's first one. Answers how many there are.
-pub fn tabulate(g: Group, table: &mut [u64]) -> usize
+fn set_rows(g: Group, table: &mut [u64]) -> usize
     requires { ⌜ (g .count ≤ labelsLimit) × (tableWords ≤ length (now table)) ⌝ }
     ensures { λ r. ⌜ Rows (labelsIn g) r (now (table .exit)) ⌝ }
 {
@@ -94,4 +94,15 @@ pub fn tabulate(g: Group, table: &mut [u64]) -> usize
         rows += 1;
     }
     rows
+}
+
+// The same. A group of one label has no row, and is not copied for it.
+pub fn tabulate(g: Group, table: &mut [u64]) -> usize
+    requires { ⌜ (g .count ≤ labelsLimit) × (tableWords ≤ length (now table)) ⌝ }
+    ensures { λ r. ⌜ Rows (labelsIn g) r (now (table .exit)) ⌝ }
+{
+    if g.count < 2 {
+        return 0;
+    }
+    set_rows(g, table)
 }

@@ -5,9 +5,14 @@ use mathlib.Core.List.{List, [], _∷_}
 use Prim.Native.Nat.{ℕ, _+_, _*_, _/_, _%_, _<_}
 use native.Mathlib.Nat.{div-add-mod, mul-mod-right, mul-div-right, mul-zero, zero-mul, zero-add, zero-mod, zero-div}
 use native.Mathlib.Omega.{arith}
-use lib.ListN.{drop}
+use lib.ListN.{length, drop}
+use Rattle.words.specs.Words.{wordOf}
+use Rattle.contraction.specs.Operands.{Operand}
+use Rattle.groups.specs.declared.groups.Group.{Group}
 use Rattle.groups.specs.Groups.{Label, size}
-use Rattle.offsets.specs.Counts.{offset}
+use Rattle.groups.specs.Held.{labelsIn}
+use Rattle.groups.proofs.LabelLists.{labels-count}
+use Rattle.offsets.specs.Counts.{offset, offsetIn}
 use Rattle.offsets.specs.FirstLabel.{firstLabel}
 use Rattle.offsets.proofs.Digits.{lowest, rest, pos-left}
 
@@ -15,6 +20,12 @@ use Rattle.offsets.proofs.Digits.{lowest, rest, pos-left}
 pub first-counts : (g : List Label) {n : ℕ} → n < size g → 0 < firstLabel g .extent
 first-counts [] h = omega arith
 first-counts (l ∷ g) {n} h = pos-left (l .extent) (size g) n h
+
+-- in a group of at most one label a count is that label's value
+pub lone-value : (g : List Label) {n : ℕ} → length g < 2 → n < size g → n < firstLabel g .extent
+lone-value [] h i = omega arith
+lone-value (l ∷ []) h i = omega arith
+lone-value (l ∷ m ∷ g) h i = absurd (omega arith)
 
 -- the offset of a count is that of its run's first count and v times the first label's weight
 pub offset-run : (f : Label → ℕ) (g : List Label) (e m v : ℕ) → f (firstLabel []) ≡ 0 → e ≡ firstLabel g .extent → v < e → offset f g (e * m + v) ≡ offset f g (e * m) + v * f (firstLabel g)
@@ -32,6 +43,11 @@ pub offset-first : (f : Label → ℕ) (g : List Label) (e v : ℕ) → f (first
 offset-first f g e v z q h =
     let r = offset-run f g e 0 v z q h in
     rw (mul-zero, zero-add, offset-none f g, zero-add) at r
+
+-- in a group of at most one label each count is a step
+pub lone-offset : (o : Operand) (g : Group) {n : ℕ} → g .count < 2 → n < size (labelsIn g) → offsetIn (wordOf 64) o (labelsIn g) n ≡ n * wordOf 64 (firstLabel (labelsIn g) .stride o)
+lone-offset o g {n} h i =
+    offset-first (λ l. wordOf 64 (l .stride o)) (labelsIn g) (firstLabel (labelsIn g) .extent) n refl refl (lone-value (labelsIn g) (omega (arith, labels-count g)) i)
 
 -- the next count of a run: its lowest digit is one more, and its offset grows by the first label's weight
 module _ (e n : ℕ) (h : n % e + 1 < e) where

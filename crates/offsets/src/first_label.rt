@@ -1,7 +1,10 @@
-ghost use Prim.Native.Nat.{_≤_};
+ghost use mathlib.Core.Path.{_≡_};
+ghost use Prim.Native.Nat.{_<_, _≤_};
+ghost use Rattle.words.specs.Words.{wordOf};
 ghost use Rattle.limits.specs.Limits.{labelsLimit};
+ghost use Rattle.contraction.specs.TensorPlaces.{tensorCount, operandAt};
 ghost use Rattle.groups.specs.Held.{labelsIn};
-ghost use Rattle.offsets.specs.FirstLabel.{FirstLabelOf};
+ghost use Rattle.offsets.specs.FirstLabel.{firstLabel, FirstLabelOf};
 use super::offsets::Offsets;
 use groups::groups::Group;
 
@@ -30,4 +33,14 @@ impl FirstLabel {
             len: l.extent,
         }
     }
+}
+
+// Its step in one tensor.
+pub fn first_step(g: Group, o: usize) -> u64
+    requires { ⌜ (g .count ≤ labelsLimit) × (o < tensorCount) ⌝ }
+    ensures { λ r. ⌜ r ≡ wordOf 64 (firstLabel (labelsIn g) .stride (operandAt o)) ⌝ }
+{
+    let label = FirstLabel::of(g);
+    let step = label.step;
+    step.words[o]
 }

@@ -7,6 +7,7 @@ ghost use Rattle.groups.specs.Groups.{size};
 ghost use Rattle.groups.specs.Held.{asLabel, labelsIn};
 ghost use Rattle.offsets.specs.Counts.{offsetIn};
 ghost use Rattle.offsets.specs.Offsets.{wordsIn, Words};
+use super::first_label::first_step;
 use contraction::contraction::Contraction;
 use groups::groups::Dim;
 use groups::groups::Group;
@@ -24,7 +25,7 @@ fn moved(value: u32, stride: u64) -> u64
 }
 
 // The offset of a count of a group in one tensor, the first label running fastest.
-pub fn offset_in(g: Group, o: usize, n: u32) -> u64
+fn offset_along(g: Group, o: usize, n: u32) -> u64
     requires { ⌜ (g .count ≤ labelsLimit) × (o < tensorCount) × (n < size (labelsIn g)) ⌝ }
     ensures { λ r. ⌜ r ≡ word 64 (offsetIn (wordOf 64) (operandAt o) (labelsIn g) n) ⌝ }
 {
@@ -40,6 +41,17 @@ pub fn offset_in(g: Group, o: usize, n: u32) -> u64
         i += 1;
     }
     at
+}
+
+// The same. The count of a single label is its value, and the group is not copied for it.
+pub fn offset_in(g: Group, o: usize, n: u32) -> u64
+    requires { ⌜ (g .count ≤ labelsLimit) × (o < tensorCount) × (n < size (labelsIn g)) ⌝ }
+    ensures { λ r. ⌜ r ≡ word 64 (offsetIn (wordOf 64) (operandAt o) (labelsIn g) n) ⌝ }
+{
+    if g.count < 2 {
+        return words::scale(n, first_step(g, o));
+    }
+    offset_along(g, o, n)
 }
 
 impl Offsets {

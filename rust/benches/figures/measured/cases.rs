@@ -50,8 +50,16 @@ fn thin() -> Vec<Case> {
         beside_nest(0.27, Case::new("512×512×1, outer product", shapes::outer(512), nests::outer, pace(100, 1))),
         Case::new("512×512×1, matrix times scalar", shapes::by_scalar(512), nests::by_scalar, pace(100, 1)),
         Case::new("1×1×1,000,000, dot product", shapes::dot(), nests::dot, pace(100, 1)),
-        Case::new("1×1×1, a batch of 512×512, by elements", shapes::by_elements(512), nests::by_elements, pace(15, 1)),
+        by_elements(),
     ]
+}
+
+/// Nine tenths of what the odometer's time is beside tiles of 0.3 µs.
+fn by_elements() -> Case {
+    Case {
+        over_odometer: Some(0.0075),
+        ..Case::new("1×1×1, a batch of 512×512, by elements", shapes::by_elements(512), nests::by_elements, pace(15, 1))
+    }
 }
 
 fn pace(turns: u32, repeats: u32) -> Pace {
