@@ -4,7 +4,7 @@ ghost use Rattle.kernel.specs.Kernel.{columnSum};
 ghost use Rattle.kernel.specs.KernelNeeds.{Summable};
 ghost use Rattle.four_columns.specs.FourSums.{FourSums};
 use limits::limits::Limits;
-use shared_lane::shared_lane::add_lane_to_four;
+use shared_lane::shared_lane::add_block_lane_to_four;
 
 // The sums of four columns that stand side by side.
 pub struct Four {
@@ -37,7 +37,7 @@ pub fn four_columns(
         let b1 = work[at + 1];
         let b2 = work[at + 2];
         let b3 = work[at + 3];
-        add_lane_to_four(
+        add_block_lane_to_four(
             &mut s0,
             &mut s1,
             &mut s2,

@@ -80,13 +80,13 @@ mul-b3 c = omega (arith, c .before .before .before .before .before .before .pre 
 shared-slice-read-b3 : tie.Need-shared-slice-read-b3 Inv-loop μ-loop
 shared-slice-read-b3 c = omega (arith, c .before .before .before .before .before .before .before .pre .right .each (c .before .before .before .before .before .loop .d) (turn (c .before .before .before .before)))
 
-mul-add-lane-to-four : tie.Need-mul-add-lane-to-four Inv-loop μ-loop
-mul-add-lane-to-four c =
+mul-add-block-lane-to-four : tie.Need-mul-add-block-lane-to-four Inv-loop μ-loop
+mul-add-block-lane-to-four c =
     let s = c .before .before .before .before .before .before .before .before .before .before .before in
     omega (arith, lane-inside (s .args .rows) {d = c .before .before .before .before .before .before .before .before .before .loop .d} (turn (c .before .before .before .before .before .before .before .before)) (le-refl (s .args .depth)) (s .pre .left))
 
-add-lane-to-four-requires : tie.Need-add-lane-to-four-requires Inv-loop μ-loop
-add-lane-to-four-requires c κs =
+add-block-lane-to-four-requires : tie.Need-add-block-lane-to-four-requires Inv-loop μ-loop
+add-block-lane-to-four-requires c κs =
     let s = c .before .before .before .before .before .before .before .before .before .before .before in
     (s .pre .few, omega (arith, lane-inside (s .args .rows) {d = c .before .before .before .before .before .before .before .before .before .loop .d} (turn (c .before .before .before .before .before .before .before .before)) (le-refl (s .args .depth)) (s .pre .left), s .pre .fits))
 
@@ -101,7 +101,7 @@ loop-again c =
     let s = c .before .before .before .before .before .before .before .before .before .before .before .before in
     let a = s .args in
     let l = c .before .before .before .before .before .before .before .before .before .before .loop in
-    let e = c .add-lane-to-four .ensures in
+    let e = c .add-block-lane-to-four .ensures in
     let w = a .work .now in
     let h = turn (c .before .before .before .before .before .before .before .before .before) in (
       omega arith,
@@ -137,8 +137,8 @@ four-columns-spec =
     add-b3
     mul-b3
     shared-slice-read-b3
-    mul-add-lane-to-four
-    add-lane-to-four-requires
+    mul-add-block-lane-to-four
+    add-block-lane-to-four-requires
     add-d
     loop-less
     loop-again
