@@ -1,13 +1,13 @@
 -- The labels behind a group's first one, as the code's array holds them.
 -- Assumes nothing.
-use mathlib.Core.Path.{_≡_, refl, ap, sym}
+use mathlib.Core.Path.{_≡_, refl, ap, sym, _∙_}
 use mathlib.Core.List.{List, map}
 use Prim.Native.Nat.{ℕ, zero, suc, _+_, _-_}
 use native.Mathlib.Numerals.{add-one}
 use native.Mathlib.Omega.{arith}
-use lib.ListN.{length, getD, drop}
+use lib.ListN.{length, getD, drop, length-map}
 use Rattle.words.specs.Lists.{tabulate}
-use Rattle.words.proofs.Tabulate.{tabulate-ext}
+use Rattle.words.proofs.Tabulate.{tabulate-ext, length-tabulate}
 use Rattle.groups.specs.declared.groups.Dim.{Dim}
 use Rattle.groups.specs.declared.groups.Group.{Group}
 use Rattle.groups.specs.Groups.{Label}
@@ -22,8 +22,7 @@ abbrev pub later : Group → ℕ → Dim
 later g i = getD (g .dims) (i + 1) noDim
 
 pub length-labels : (n : ℕ) (f : ℕ → Dim) → length (labels n f) ≡ n
-length-labels zero f = refl
-length-labels (suc n) f = ap suc (length-labels n (λ i. f (suc i)))
+length-labels n f = length-map (tabulate n f) asLabel ∙ length-tabulate n f
 
 pub labels-behind : (g : Group) → drop 1 (labelsIn g) ≡ labels (g .count - 1) (later g)
 unfolding labelsIn

@@ -1,20 +1,27 @@
--- Runs of a group's first label: along a run a count's offset grows by the label's weight.
+-- Runs of a group's first label: its step in a tensor, and along a run a count's offset grows by the label's weight.
 -- Assumes nothing.
 use mathlib.Core.Path.{_≡_, refl, ap, sym, _∙_}
 use mathlib.Core.List.{List, [], _∷_}
 use Prim.Native.Nat.{ℕ, _+_, _*_, _/_, _%_, _<_}
 use native.Mathlib.Nat.{div-add-mod, mul-mod-right, mul-div-right, mul-zero, zero-mul, zero-add, zero-mod, zero-div}
 use native.Mathlib.Omega.{arith}
-use lib.ListN.{length, drop}
+use lib.ListN.{length, getD, drop}
 use Rattle.words.specs.Words.{wordOf}
 use Rattle.contraction.specs.Operands.{Operand}
+use Rattle.contraction.specs.TensorPlaces.{tensorCount, operandAt}
+use Rattle.contraction.proofs.TensorPlaces.{at-place}
 use Rattle.groups.specs.declared.groups.Group.{Group}
 use Rattle.groups.specs.Groups.{Label, size}
 use Rattle.groups.specs.Held.{labelsIn}
 use Rattle.groups.proofs.LabelLists.{labels-count}
 use Rattle.offsets.specs.Counts.{offset, offsetIn}
-use Rattle.offsets.specs.FirstLabel.{firstLabel}
+use Rattle.offsets.specs.declared.first_label.FirstLabel.{FirstLabel}
+use Rattle.offsets.specs.FirstLabel.{firstLabel, FirstLabelOf}
 use Rattle.offsets.proofs.Digits.{lowest, rest, pos-left}
+
+-- the step at a tensor's place is its first label's
+pub step-at : {g : List Label} (l : FirstLabel) {n : ℕ} → FirstLabelOf g l → n < tensorCount → getD (l .step .words) n 0 ≡ wordOf 64 (firstLabel g .stride (operandAt n))
+step-at l {n} f h = sym (at-place (l .step .words) n h) ∙ f .step (operandAt n)
 
 -- in a group that has a count
 pub first-counts : (g : List Label) {n : ℕ} → n < size g → 0 < firstLabel g .extent

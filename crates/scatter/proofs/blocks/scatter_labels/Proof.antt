@@ -7,19 +7,17 @@ use mathlib.Core.List.{List}
 use Prim.Native.Nat.{ℕ, _+_, _-_, _%_, _<_, _≤_}
 use native.Mathlib.Nat.{add-assoc, mod-lt}
 use native.Mathlib.Omega.{arith}
-use lib.ListN.{getD, set}
+use lib.ListN.{set}
 use Rattle.words.specs.Words.{word, wordOf}
 use Rattle.words.proofs.Modular.{word-add-left, word-add-right}
 use Rattle.words.proofs.Fronts.{front-none, front-set}
 use Rattle.contraction.specs.Operands.{Operand}
-use Rattle.contraction.specs.TensorPlaces.{tensorCount, operandAt}
-use Rattle.contraction.proofs.TensorPlaces.{at-place}
+use Rattle.contraction.specs.TensorPlaces.{operandAt}
 use Rattle.groups.specs.Groups.{Label, size}
 use Rattle.groups.specs.Held.{labelsIn}
-use Rattle.offsets.specs.declared.first_label.FirstLabel.{FirstLabel}
 use Rattle.offsets.specs.Counts.{offsetIn}
-use Rattle.offsets.specs.FirstLabel.{firstLabel, FirstLabelOf}
-use Rattle.offsets.proofs.Runs.{first-counts, next-lowest, offset-next}
+use Rattle.offsets.specs.FirstLabel.{firstLabel}
+use Rattle.offsets.proofs.Runs.{step-at, first-counts, next-lowest, offset-next}
 use Rattle.scatter.specs.ScatterVectors.{wordAt, scatterVector}
 use Rattle.scatter.proofs.Vectors.{same-long}
 use Rattle.scatter.proofs.blocks.scatter_labels.Statement.{statement}
@@ -33,10 +31,6 @@ record AtCount (o : Operand) (from : ℕ) (g : List Label) (len n at left : ℕ)
 -- before count n: where counts of a run are left, `at` is the word of the count before it
 record Before (o : Operand) (from : ℕ) (g : List Label) (len n at left : ℕ) : Type 0 where
   last : 0 < left → (m : ℕ) × (n ≡ m + 1) × AtCount o from g len m at (left + 1)
-
--- the step at a tensor's place is its first label's
-step-at : {g : List Label} {l : FirstLabel} {n : ℕ} → FirstLabelOf g l → n < tensorCount → getD (l .step .words) n 0 ≡ wordOf 64 (firstLabel g .stride (operandAt n))
-step-at {l = l} {n} f h = sym (at-place (l .step .words) n h) ∙ f .step (operandAt n)
 
 module _ (g : List Label) {len : ℕ} (e : len ≡ firstLabel g .extent) where
   long : {n : ℕ} → n < size g → 0 < len
@@ -135,7 +129,7 @@ here c =
     let n : s .args .first + a .loop .k < size (labelsIn (s .args .g)) = omega arith in
     ⊎-elim
     (λ w. rw (w .3, w .4) (anew (labelsIn (s .args .g)) (f .len) n (w .1 .ensures) (w .2 .ensures)))
-    (λ w. rw (w .2, w .3) (along (labelsIn (s .args .g)) (f .len) _ (step-at f (s .pre .1)) (a .loop .inv .2) (omega (arith, w .0 .left)) (w .1 .ensures)))
+    (λ w. rw (w .2, w .3) (along (labelsIn (s .args .g)) (f .len) _ (step-at _ f (s .pre .1)) (a .loop .inv .2) (omega (arith, w .0 .left)) (w .1 .ensures)))
     (c .if1 .came)
 
 left-here : (c : tie.Joined1 Inv-loop μ-loop) → 0 < c .if1 .left

@@ -4,7 +4,7 @@ use mathlib.Core.Path.{_≡_, ap, sym, _∙_}
 use mathlib.Core.List.{List}
 use Prim.Native.Nat.{ℕ, _-_, _≤_}
 use native.Mathlib.Omega.{arith}
-use lib.ListN.{length, set}
+use lib.ListN.{set}
 use Rattle.words.specs.Fronts.{front}
 use Rattle.words.specs.Stepped.{stepped}
 use Rattle.words.proofs.Modular.{step-none, step-more}
