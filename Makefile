@@ -3,7 +3,7 @@
 # make example: makes the archive, then builds and runs the examples; each prints the same lines in C and in Rust.
 # make bench: makes the archive, then measures both engines and the delay call beside loops in Rust. Prints the tables, puts them and the plots into docs/; fails where a required ratio is missed.
 # make bench BEFORE=ARCHIVE: beside the archive of another commit too, a copy of its target/staticlib/libnezgrak.a. That needs objcopy.
-# make soak: makes the archive and the job program, then compares both with models on a million random contractions, 200,000 in fixed point, 100,000 pairs of recordings and 100,000 damaged job files. SEED=n takes others, COUNT=n fewer.
+# make soak: makes the archive and the job program, then compares both with models on a million random contractions, 100,000 pairs of recordings and 100,000 damaged job files. SEED=n takes others, COUNT=n fewer.
 .PHONY: run test example bench soak archive
 JOB = examples/jobs/matrix_three_tiles.job
 cargo = cd rust && CARGO_TARGET_DIR=../target/cargo cargo
@@ -19,7 +19,7 @@ archive:
 
 example: archive
 	@mkdir -p target/c
-	@set -e; for name in plain tiles shared_start delay fixed; do \
+	@set -e; for name in plain tiles shared_start delay; do \
 	    cc -std=c11 -O2 -Wall -Wextra -Werror -Iinclude examples/$$name.c target/staticlib/libnezgrak.a -o target/c/example_$$name; \
 	    target/c/example_$$name; \
 	    ($(cargo) run --release --offline --quiet --example $$name); \

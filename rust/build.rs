@@ -7,17 +7,8 @@ use std::path::{Path, PathBuf};
 use std::process::{exit, Command};
 
 /// What an archive exports, without the `nezgrak_` that all begin with.
-const CALLS: [&str; 9] = [
-    "contract",
-    "contract_fixed",
-    "contract_with_c",
-    "delay",
-    "run_tiles",
-    "run_tiles_fixed",
-    "run_tiles_with_c",
-    "state",
-    "state_with_c",
-];
+const CALLS: [&str; 7] =
+    ["contract", "contract_with_c", "delay", "run_tiles", "run_tiles_with_c", "state", "state_with_c"];
 
 fn main() {
     println!("cargo:rerun-if-env-changed=NEZGRAK_LIB_DIR");

@@ -1,11 +1,10 @@
-//! A bounded run for robustness: random contractions, in fixed point too, and recordings through the C calls, and damaged job
-//! files through the program, all compared with the models that the tests use. `make soak` runs it; docs/ROBUSTNESS.md says what it shows.
+//! A bounded run for robustness: random contractions and recordings through the C calls, and damaged job files through
+//! the program, all compared with the models that the tests use. `make soak` runs it; docs/ROBUSTNESS.md says what it shows.
 
 #[path = "../tests/common/mod.rs"]
 mod common;
 mod contractions;
 mod figures;
-mod fixed;
 mod jobs;
 mod recordings;
 mod settings;

@@ -1,10 +1,9 @@
-//! What the environment asks for: SEED, COUNT, and CONTRACTION, FIXED, RECORDINGS or FILE to repeat one of them alone.
+//! What the environment asks for: SEED, COUNT, and CONTRACTION, RECORDINGS or FILE to repeat one of them alone.
 
 use std::{env, fmt};
 
-/// How many contractions, contractions in fixed point, pairs of recordings and job files a full run has.
+/// How many contractions, pairs of recordings and job files a full run has.
 const COUNT: u64 = 1_000_000;
-const FIXED: u64 = 200_000;
 const RECORDINGS: u64 = 100_000;
 pub const FILES: u64 = 100_000;
 
@@ -20,7 +19,6 @@ pub struct Settings {
 #[derive(Clone, Copy)]
 pub enum Item {
     Contraction(u64),
-    Fixed(u64),
     Recordings(u64),
     File(u64),
 }
@@ -29,7 +27,6 @@ impl fmt::Display for Item {
     fn fmt(&self, f: &mut fmt::Formatter<'_>) -> fmt::Result {
         match self {
             Item::Contraction(number) => f.pad(&format!("CONTRACTION={number}")),
-            Item::Fixed(number) => f.pad(&format!("FIXED={number}")),
             Item::Recordings(number) => f.pad(&format!("RECORDINGS={number}")),
             Item::File(number) => f.pad(&format!("FILE={number}")),
         }
@@ -39,8 +36,7 @@ impl fmt::Display for Item {
 impl Settings {
     pub fn read() -> Self {
         let contraction = number("CONTRACTION").map(Item::Contraction);
-        let of_calls = contraction.or(number("FIXED").map(Item::Fixed)).or(number("RECORDINGS").map(Item::Recordings));
-        let alone = of_calls.or(number("FILE").map(Item::File));
+        let alone = contraction.or(number("RECORDINGS").map(Item::Recordings)).or(number("FILE").map(Item::File));
         Self { seed: number("SEED").unwrap_or(SEED), count: number("COUNT").unwrap_or(COUNT), alone }
     }
 
@@ -50,11 +46,6 @@ impl Settings {
             Some(_) => FILES,
             None => (self.count.min(COUNT) * FILES).div_ceil(COUNT),
         }
-    }
-
-    /// Contractions in fixed point in proportion to the others.
-    pub fn fixed(&self) -> u64 {
-        (self.count * FIXED).div_ceil(COUNT)
     }
 
     /// Pairs of recordings in proportion to the contractions.

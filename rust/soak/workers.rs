@@ -3,7 +3,6 @@
 use crate::common::rng::Rng;
 use crate::contractions;
 use crate::figures::Figures;
-use crate::fixed;
 use crate::jobs::{self, Files};
 use crate::recordings;
 use crate::settings::{Item, Settings};
@@ -19,9 +18,8 @@ pub const THREADS: u64 = 2;
 /// One file in so many is handed to the program by its name, the others at standard input.
 const BY_NAME: u64 = 16;
 
-/// Tell the seeds of the recordings and of fixed point from those of the contractions, which have the numbers of the threads.
+/// Tells the seeds of the recordings from those of the contractions, which have the numbers of the threads.
 const RECORDINGS: u64 = 1 << 32;
-const FIXED: u64 = 1 << 33;
 
 thread_local! {
     /// What this thread is at.
@@ -76,8 +74,7 @@ impl Workers<'_> {
             None => {
                 let files = own(self.files.mutants.len() as u64).map(Item::File);
                 let recordings = own(self.settings.recordings()).map(Item::Recordings);
-                let fixed = own(self.settings.fixed()).map(Item::Fixed);
-                own(self.settings.count).map(Item::Contraction).chain(fixed).chain(recordings).chain(files).collect()
+                own(self.settings.count).map(Item::Contraction).chain(recordings).chain(files).collect()
             }
         }
     }
@@ -87,10 +84,6 @@ impl Workers<'_> {
             Item::Contraction(number) => {
                 let of_thread = derived(self.settings.seed, number % THREADS);
                 contractions::check(&mut Rng::new(derived(of_thread, number)), figures);
-            }
-            Item::Fixed(number) => {
-                let of_fixed = derived(self.settings.seed, FIXED);
-                fixed::check(&mut Rng::new(derived(of_fixed, number)), figures);
             }
             Item::Recordings(number) => {
                 let of_recordings = derived(self.settings.seed, RECORDINGS);

@@ -109,62 +109,6 @@ call! {
     )
 }
 
-/// Declares a call that has no form with C, and the function that makes it.
-macro_rules! call_without_c {
-    ($(#[$about:meta])* $name:ident is $call:ident, with ($($other:ident: $type:ty),* $(,)?)) => {
-        extern "C" {
-            fn $call(
-                a_layout: *const LayoutWords, a: *const u32, a_count: usize,
-                b_layout: *const LayoutWords, b: *const u32, b_count: usize,
-                $($other: $type),*
-            ) -> u32;
-        }
-
-        $(#[$about])*
-        ///
-        /// # Safety
-        ///
-        /// As of the calls with two forms.
-        pub(crate) unsafe fn $name(a: Operand<'_>, b: Operand<'_>, $($other: $type),*) -> u32 {
-            let ((a_layout, a, a_count), (b_layout, b, b_count)) = (a.passed(), b.passed());
-            $call(a_layout, a, a_count, b_layout, b, b_count, $($other),*)
-        }
-    };
-}
-
-call_without_c! {
-    /// Questions 1 to 9, 34 and 35, then the plain engine in fixed point. Answers 0, or the number of the question that
-    /// refused.
-    contract_fixed is nezgrak_contract_fixed, with (
-        d_layout: *const LayoutWords,
-        d: *mut u32,
-        d_count: usize,
-        shift: u32,
-    )
-}
-
-call_without_c! {
-    /// Questions 1 to 12 and 33 to 35, then as many tiles in fixed point as the budget allows and are left. Answers as
-    /// `run_tiles` does.
-    run_tiles_fixed is nezgrak_run_tiles_fixed, with (
-        d_layout: *const LayoutWords,
-        d: *mut u32,
-        d_count: usize,
-        shift: u32,
-        rows: u32,
-        cols: u32,
-        depth: u32,
-        work: *mut u32,
-        work_count: usize,
-        sums: *mut i64,
-        sums_count: usize,
-        done: u64,
-        budget: u64,
-        done_after: *mut u64,
-        complete: *mut u32,
-    )
-}
-
 extern "C" {
     /// Questions 31 and 32, then the lag with the greatest score, and that score. Answers 0; or the number of the question
     /// that refused, and leaves both as they were. Samples are words read as signed.

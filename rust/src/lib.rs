@@ -9,10 +9,6 @@
 //! at once, and [`tiles()`](Contraction::tiles) tile by tile, with time for other work in between. What a sum starts from
 //! is D's old word, or the entry of a third tensor that is read, C, by [`with_c()`](Contraction::with_c).
 //!
-//! In fixed point ([`contract_fixed()`](Contraction::contract_fixed), [`tiles_fixed()`](Contraction::tiles_fixed)) words
-//! are signed and a shift says how many fraction bits a product has: the exact sum is divided by 2^shift, rounded to nearest
-//! and added to D's old word, and the whole is held at the ends of the signed 32-bit range.
-//!
 //! [`delay()`] finds by how many samples one recording is later than another.
 //!
 //! ```
@@ -40,7 +36,6 @@ mod contract;
 mod contraction;
 mod delay;
 mod ffi;
-mod fixed;
 mod layout;
 mod refusal;
 mod run_tiles;

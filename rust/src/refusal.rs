@@ -11,11 +11,6 @@ use core::fmt;
 /// [`state()`](crate::Contraction::state) 1 to 6, 30, 7 to 10, 12 and 13.
 /// [`delay()`](crate::delay()) asks 31 and 32 of its recordings, and nothing else.
 ///
-/// In fixed point C is not asked about, and three more questions come last:
-/// [`contract_fixed()`](crate::Contraction::contract_fixed) asks 1 to 9, 34 and 35,
-/// [`run_tiles_fixed()`](crate::Contraction::run_tiles_fixed) 1 to 12 and 33 to 35, and
-/// [`state_fixed()`](crate::Contraction::state_fixed) 1 to 10, 12 and 13.
-///
 /// ```
 /// use nezgrak::{Contraction, Layout, Tensor};
 ///
@@ -30,7 +25,7 @@ pub struct Refusal {
 }
 
 impl Refusal {
-    /// The question's number, 1 to 13 or 30 to 35.
+    /// The question's number, 1 to 13 or 30 to 32.
     #[must_use]
     pub const fn number(self) -> u32 {
         self.number
@@ -73,9 +68,6 @@ impl Refusal {
                  or the length less the greatest lag is not 1 to 256"
             }
             32 => "a sample of a recording is not from -2,048 to 2,047",
-            33 => "the slice of sums is shorter than D's slice",
-            34 => "the depth size is above 65,536, or the shift is above 15",
-            35 => "a word that A's or B's layout addresses is not from -32,768 to 32,767",
             _ => "a question of another number",
         }
     }
@@ -111,8 +103,8 @@ mod tests {
 
     #[test]
     fn each_number_has_a_text_of_its_own() {
-        let texts: HashSet<_> = (1..=14).chain(30..=35).map(|n| Refusal::done_or(n).unwrap_err().finding()).collect();
-        assert_eq!(texts.len(), 20);
+        let texts: HashSet<_> = (1..=14).chain(30..=32).map(|n| Refusal::done_or(n).unwrap_err().finding()).collect();
+        assert_eq!(texts.len(), 17);
         let refused = Refusal::done_or(6).unwrap_err();
         assert_eq!(refused.to_string(), "refused 6: a letter has two extents");
         assert_eq!(format!("{refused:?}"), "refused 6: a letter has two extents");

@@ -31,25 +31,15 @@ use crate::{Contraction, OutputIndex, Progress, Refusal, State, TileSizes};
 /// assert_eq!(words, [211, 414, 608, 810]);
 /// # Ok::<(), nezgrak::Refusal>(())
 /// ```
-///
-/// [`Contraction::tiles_fixed`] makes one that runs in fixed point: it holds the shift and the sums too.
 #[derive(Debug)]
 pub struct Tiles<'a> {
     contraction: Contraction<'a>,
     d: &'a mut [u32],
     sizes: TileSizes,
     work: &'a mut [u32],
-    fixed: Option<Fixed<'a>>,
     done: u64,
     total: u64,
     budget: u64,
-}
-
-/// What a driver in fixed point has more.
-#[derive(Debug)]
-struct Fixed<'a> {
-    shift: u32,
-    sums: &'a mut [i64],
 }
 
 impl<'a> Contraction<'a> {
@@ -60,46 +50,9 @@ impl<'a> Contraction<'a> {
     ///
     /// The number of the first question that fails, 1 to 11 or 30. They are asked here, so that no step is refused later.
     pub fn tiles(self, d: &'a mut [u32], sizes: TileSizes, work: &'a mut [u32]) -> Result<Tiles<'a>, Refusal> {
-        Tiles { contraction: self, d, sizes, work, fixed: None, done: 0, total: 0, budget: 1 }.asked()
-    }
-
-    /// The same in fixed point: [`run_tiles_fixed()`](Contraction::run_tiles_fixed) says what becomes of D's words and of
-    /// the sums, of which there are at least as many as words in D's slice. They may hold anything.
-    ///
-    /// # Errors
-    ///
-    /// The number of the first question that fails, 1 to 11 or 33 to 35. They are asked here, so that no step is refused
-    /// later.
-    ///
-    /// ```
-    /// use nezgrak::{Contraction, Layout, OutputIndex, State, Tensor, TileSizes};
-    ///
-    /// // Weights with 7 fraction bits: 0.5, -1 and 0.25.
-    /// let k = Layout::new(b"k", &[3], &[1], 0);
-    /// let weights = [64, -128, 32].map(|weight: i32| weight as u32);
-    /// let dot = Contraction::new(Tensor::new(k, &[9, 4, 6]), Tensor::new(k, &weights), Layout::scalar(0));
-    /// let sizes = TileSizes { rows: 1, cols: 1, depth: 2 };
-    /// let (mut score, mut work, mut sums) = ([10], [0; 4], [0]);
-    /// let mut tiles = dot.tiles_fixed(&mut score, 7, sizes, &mut work, &mut sums)?;
-    ///
-    /// tiles.step(1)?;
-    /// assert_eq!(tiles.state(OutputIndex::new(0, 0, 0))?, State::Part);
-    /// assert_eq!((tiles.words(), tiles.sums()), (&[10][..], &[64][..]));
-    ///
-    /// tiles.step(1)?;
-    /// assert_eq!((tiles.words(), tiles.sums()), (&[12][..], &[256][..]));
-    /// # Ok::<(), nezgrak::Refusal>(())
-    /// ```
-    pub fn tiles_fixed(
-        self,
-        d: &'a mut [u32],
-        shift: u32,
-        sizes: TileSizes,
-        work: &'a mut [u32],
-        sums: &'a mut [i64],
-    ) -> Result<Tiles<'a>, Refusal> {
-        let (contraction, fixed) = (self.without_c(), Some(Fixed { shift, sums }));
-        Tiles { contraction, d, sizes, work, fixed, done: 0, total: 0, budget: 1 }.asked()
+        let mut tiles = Tiles { contraction: self, d, sizes, work, done: 0, total: 0, budget: 1 };
+        tiles.total = tiles.largest_count()?;
+        Ok(tiles)
     }
 }
 
@@ -119,7 +72,7 @@ impl Tiles<'_> {
     ///
     /// # Errors
     ///
-    /// None: the questions are asked again, of what they were asked of when the driver was made.
+    /// None: the questions are asked again, of what [`Contraction::tiles`] asked them of.
     pub fn step(&mut self, budget: u64) -> Result<Progress, Refusal> {
         let progress = self.run(self.done, budget)?;
         self.done = progress.done;
@@ -159,40 +112,23 @@ impl Tiles<'_> {
         self.d
     }
 
-    /// In fixed point the slice of sums as it is now, else none. A word's sum stands at the word's place.
-    #[must_use]
-    pub fn sums(&self) -> &[i64] {
-        self.fixed.as_ref().map_or(&[], |fixed| fixed.sums)
-    }
-
     fn run(&mut self, done: u64, budget: u64) -> Result<Progress, Refusal> {
-        let Self { contraction, d, sizes, work, fixed, .. } = self;
-        match fixed {
-            None => contraction.run_tiles(d, *sizes, work, done, budget),
-            Some(Fixed { shift, sums }) => contraction.run_tiles_fixed(d, *shift, *sizes, work, sums, done, budget),
-        }
-    }
-
-    /// Asks the questions, and for the total.
-    fn asked(mut self) -> Result<Self, Refusal> {
-        self.run(0, 0)?;
-        self.total = self.largest_count();
-        Ok(self)
+        self.contraction.run_tiles(self.d, self.sizes, self.work, done, budget)
     }
 
     /// The total is the largest count of tiles done that question 12 accepts. The engine is asked, with a budget of 0
-    /// that runs nothing, in 30 halvings: its answers are proved, and a formula here would not be. In fixed point it is
-    /// the same total, and a call that wraps is asked, since it does not look at every word of A and B.
-    fn largest_count(&mut self) -> u64 {
+    /// that runs nothing, in 30 halvings: its answers are proved, and a formula here would not be.
+    fn largest_count(&mut self) -> Result<u64, Refusal> {
         let (mut accepted, mut most) = (0, Self::MOST);
+        self.run(accepted, 0)?;
         while accepted < most {
             let middle = most - (most - accepted) / 2;
-            match self.contraction.run_tiles(self.d, self.sizes, self.work, middle, 0) {
+            match self.run(middle, 0) {
                 Ok(_) => accepted = middle,
                 Err(_) => most = middle - 1,
             }
         }
-        accepted
+        Ok(accepted)
     }
 }
 

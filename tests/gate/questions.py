@@ -1,7 +1,7 @@
 """The questions before any work are the same wherever a user reads them.
 
-README.md and docs/RULES.md have 1 to 13, with 30 right after 6, the delay call's 31 and 32, fixed point's 33 to 35, and the job file's 20 to 23. The header and
-the Rust crate have 1 to 13 and 30 to 35: none of their calls reads a job file. In the header 30 stands at the first call that asks it, and so do 34, 35 and 33. docs/RULES.md and the header put each question in the same words. README.md
+README.md and docs/RULES.md have 1 to 13, with 30 right after 6, the delay call's 31 and 32, and the job file's 20 to 23. The header and the Rust crate have 1
+to 13 and 30 to 32: none of their calls reads a job file. In the header 30 stands at the first call that asks it. docs/RULES.md and the header put each question in the same words. README.md
 and the crate say in the same words what refuses. A question and what refuses have the same figures, in the same order, and name the same things. In the
 header and the crate × is written *.
 """
@@ -13,9 +13,8 @@ from files import contents
 
 README, RULES, HEADER, CRATE = "README.md", "docs/RULES.md", "include/nezgrak.h", "rust/src/refusal.rs"
 JOB_FILE = "docs/JOB-FILE.md"
-OF_CALLS, OF_JOB_FILES = [*range(1, 7), 30, *range(7, 14), *range(31, 36)], [*range(20, 24)]
-IN_HEADER = [*range(1, 14), 30, 31, 32, 34, 35, 33]
-NUMBERS = {README: OF_CALLS + OF_JOB_FILES, RULES: OF_CALLS + OF_JOB_FILES, HEADER: IN_HEADER, CRATE: OF_CALLS}
+OF_CALLS, OF_JOB_FILES = [*range(1, 7), 30, *range(7, 14), 31, 32], [*range(20, 24)]
+NUMBERS = {README: OF_CALLS + OF_JOB_FILES, RULES: OF_CALLS + OF_JOB_FILES, HEADER: [*range(1, 14), 30, 31, 32], CRATE: OF_CALLS}
 
 TABLE_ROW = r"^\| (\d+) \| (.+?) \|"  # the number and the column after it
 HEADER_ROW = r"^ \*     (\d+)  (.+(?:\n \*        .+)*)"
@@ -23,7 +22,7 @@ ROWS = {README: TABLE_ROW, RULES: TABLE_ROW, JOB_FILE: TABLE_ROW, HEADER: HEADER
 
 FIGURE = re.compile(r"-?\d+(?:,\d{3})*")
 THING = re.compile(
-    r"\b(?:C\b|tensor|letter|extent|stride|base|slice|label|entry|rows|cols|depth|work|tile|total|group|recording|lag|sample|sums|shift|mark|record|go\b)"
+    r"\b(?:C\b|tensor|letter|extent|stride|base|slice|label|entry|rows|cols|depth|work|tile|total|group|recording|lag|sample|mark|record|go\b)"
 )
 
 
@@ -89,11 +88,10 @@ def spelled(text):
 
 
 def asked_in_readme():
-    """What each call asks without C, then what each asks with C, what the delay call asks, and what the two calls in fixed point ask."""
+    """What each call asks without C, then what each asks with C, and then what the delay call asks."""
     rows = re.findall(r"^\| (\d+) \| .+ \| (.+) \|$", contents(README), re.M)
     calls = [["all contractions", call, *named] for named in ([], ["calls with C"]) for call in ("plain calls", "tile calls", "state questions")]
-    fixed = [["all contractions", "plain calls", "fixed-point calls"], ["all contractions", "tile calls", "fixed-point calls", "fixed-point tile calls"]]
-    return [[int(number) for number, by in rows if set(by.split(", ")) & set(call)] for call in [*calls, ["the delay call"], *fixed]]
+    return [[int(number) for number, by in rows if set(by.split(", ")) & set(call)] for call in [*calls, ["the delay call"]]]
 
 
 def asked_in_header():
@@ -120,15 +118,13 @@ def check_callers():
     more, before = asked_in_sentence(RULES, r"Where C is named, each asks N right after N\.")
     with_c = [with_more(numbers, more, before) for numbers in asked]
     of_delay = asked_in_sentence(RULES, r"The delay call asks N\.")
-    of_fixed = asked_in_sentence(RULES, r"In fixed point the plain call asks N, a tile call N\.")
     in_crate = asked_in_sentence(CRATE, r"\[`contract\(\)`\]\S* asks N, \[`run_tiles\(\)`\]\S* N, and \[`state\(\)`\]\S* N\.")
     in_crate += asked_in_sentence(CRATE, r"\[`delay\(\)`\]\S* asks N of its recordings")
-    in_crate += asked_in_sentence(CRATE, r"\[`contract_fixed\(\)`\]\S* asks N, \[`run_tiles_fixed\(\)`\]\S* N, and \[`state_fixed\(\)`\]\S* N\.")
     of_file, more, before = asked_in_sentence(JOB_FILE, "the questions of a tile call are asked, N, and where C is named N right after N ")
     said = {
-        README: (asked + with_c + of_delay + of_fixed, asked_in_readme()),
-        HEADER: (asked + with_c + of_delay + of_fixed, asked_in_header()),
-        CRATE: (with_c + of_delay + of_fixed + [asked[2]], in_crate),
+        README: (asked + with_c + of_delay, asked_in_readme()),
+        HEADER: (asked + with_c + of_delay, asked_in_header()),
+        CRATE: (with_c + of_delay, in_crate),
         JOB_FILE: ([asked[1], with_c[1]], [of_file, with_more(of_file, more, before)]),
     }
     for path, (wanted, there) in said.items():

@@ -29,7 +29,6 @@ def copies():
         ("a refused job", "", f"$ tools/jobfile.py run {jobs}/refused.txt\n" + contents(f"{jobs}/refused.out")),
         ("what the tiles example prints", "", contents("tests/examples/tiles.out")),
         ("what the delay example prints", "", contents("tests/examples/delay.out")),
-        ("what the fixed-point example prints", "", contents("tests/examples/fixed.out")),
     ]
 
 
@@ -43,7 +42,7 @@ def check_readme():
     expect(f"`{plain}`" in text, "README.md does not say that the plain example prints", plain)
     yield "README.md: what the plain example prints"
     parts = [block for language, block in blocks if language in ("rust", "c") and block not in [copy[2] for copy in shown]]
-    for name in "tiles", "shared_start", "delay", "fixed":
+    for name in "tiles", "shared_start", "delay":
         whole = contents(f"rust/examples/{name}.rs") + contents(f"examples/{name}.c")
         expect(any("\n" + part in whole for part in parts), "README.md has no code for the example", name)
         parts = [part for part in parts if "\n" + part not in whole]

@@ -6,13 +6,13 @@ use mathlib.Core.List.{List, ◌++◌}
 use Prim.Native.Nat.{ℕ}
 use lib.ListN.{length}
 use Rattle.contraction.specs.declared.contraction.Contraction.{Contraction}
-use Rattle.contraction.specs.Operands.{four, of_tensors, tensors}
+use Rattle.contraction.specs.Operands.{Operand, four, of_tensors, tensors}
 use Rattle.tensor_answers.specs.Asking.{refusal}
 use Rattle.tensor_answers.specs.OwnQuestions.{tensor_questions}
 use Rattle.questions.specs.Questions.{label_questions, entry_questions, layout_questions}
 use Rattle.tensor_answers.proofs.Refusal.{Numbered, passed, refusal_both}
 use Rattle.questions.proofs.Ready.{AllPassed, accepted_parts}
-use Rattle.meaning.specs.Meaning.{Slices, lengths_in, first_no}
+use Rattle.meaning.specs.Meaning.{Slices, lengths_in}
 use Rattle.tiles.specs.declared.grid.Sizes.{Sizes}
 use Rattle.tile_questions.specs.TileQuestions.{sizes_fit, size_question, accept_questions}
 
@@ -35,14 +35,9 @@ module _ (c : Contraction) (z : Sizes) (w : Slices) where
   unfolding accept_questions layout_questions tensor_questions label_questions entry_questions size_question
   numbered = tt
 
-  -- where they pass, so do questions 1 to 9
-  parts : refusal (accept_questions c z w) ≡ 0 → (first_no c w ≡ 0) × (refusal (size_question z) ≡ 0)
-  unfolding accept_questions layout_questions tensor_questions label_questions entry_questions
-  parts e = refusal_both (layout_questions (tensors c) (lengths_in c w)) (size_question z) tt e
-
-  pub first_passed : refusal (accept_questions c z w) ≡ 0 → first_no c w ≡ 0
-  first_passed e = (parts e).0
-
   pub accepted : refusal (accept_questions c z w) ≡ 0 → AllPassed (tensors c) (lengths_in c w) × (sizes_fit z ≡ true)
-  unfolding size_question
-  accepted e = (accepted_parts (tensors c) (lengths_in c w) (first_passed e), (passed (size_question z) tt (parts e).1).0)
+  unfolding accept_questions layout_questions tensor_questions label_questions entry_questions size_question
+  accepted e =
+      let n : Operand → ℕ = lengths_in c w in
+      let both = refusal_both (layout_questions (tensors c) n) (size_question z) tt e in
+      (accepted_parts (tensors c) n both.0, (passed (size_question z) tt both.1).0)

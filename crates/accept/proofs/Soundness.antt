@@ -20,7 +20,7 @@ use Rattle.contraction.specs.declared.contraction.Contraction.{Contraction}
 use Rattle.contraction.specs.Operands.{Operand, A, B, C, D, tensors}
 use Rattle.questions.proofs.Ready.{AllPassed}
 use Rattle.groups.specs.Groups.{Group, batch, row, column, depth, in_group, group}
-use Rattle.meaning.specs.Index.{at, index}
+use Rattle.meaning.specs.Index.{index}
 use Rattle.meaning.specs.Meaning.{Slices, lengths_in, shape_in, start_of, entry, result}
 use Rattle.meaning.proofs.EngineIndices.{out_groups}
 use Rattle.meaning.proofs.IndexParts.{Part, Below, at_parts, parts_in_range}
@@ -64,16 +64,9 @@ module _ (c : Contraction) (w : Slices) (same : letters_same (axes (tensors c C)
   unfolding entry
   entry_own o n = ap (λ (x : ℕ). get_or (w o) x 0) (address_own (tensors c) n o (own_group (shape_in c) same o))
 
-  pub left_own : (h i j k : ℕ) → entry c w A (at (group (shape_in c) depth) k (output_index c h i j)) ≡ entry_on c w left h i k
-  unfolding entry_on index group
-  left_own h i j k = entry_own A (group_counts h i j k)
-
-  pub right_own : (h i j k : ℕ) → entry c w B (at (group (shape_in c) depth) k (output_index c h i j)) ≡ entry_on c w right h j k
-  unfolding entry_on index group
-  right_own h i j k = entry_own B (group_counts h i j k)
-
   term_own : (h i j k : ℕ) → term c w (output_index c h i j) k ≡ entry_on c w left h i k * entry_on c w right h j k
-  term_own h i j k = λ x. left_own h i j k x * right_own h i j k x
+  unfolding entry_on index group
+  term_own h i j k = λ x. entry_own A (group_counts h i j k) x * entry_own B (group_counts h i j k) x
 
 module _ (c : Contraction) (z : Sizes) (w : Slices) (ok : AllPassed (tensors c) (lengths_in c w)) (fit : sizes_fit z ≡ true) where
   open cut_of c z use {K}
@@ -90,17 +83,6 @@ module _ (c : Contraction) (z : Sizes) (w : Slices) (ok : AllPassed (tensors c) 
     inside : address_at c h i j < length (w D)
     unfolding address_at
     inside = (inside_every (tensors c D) (length (w D)) (rw (ok.within D) tt) (output_index c h i j) at_in_range).1
-
-  -- a side's entry at counts in range
-  pub side_in_range : (s : Side) (h m k : ℕ) → h < (cut_of c z).H → m < size_on (cut_of c z) s → k < K
-      → InRange (axes (tensors c (tensor_on s))) (index (shape_in c) ((depth, k) ∷ (batch, h) ∷ (group_on s, m) ∷ []))
-  unfolding index group
-  side_in_range left h m k bh bm bk =
-      parts_in_range (shape_in c) (rw ok.agree tt) A (groups_at (shape_in c) (group_counts h m m k) (groups_of A)) (bk, (bh, (bm, tt)))
-      (own_cover (shape_in c) (group_counts h m m k) A (own_group (shape_in c) ok.same A))
-  side_in_range right h m k bh bm bk =
-      parts_in_range (shape_in c) (rw ok.agree tt) B (groups_at (shape_in c) (group_counts h m m k) (groups_of B)) (bk, (bh, (bm, tt)))
-      (own_cover (shape_in c) (group_counts h m m k) B (own_group (shape_in c) ok.same B))
 
   apart : (h i j h' i' j' : ℕ) → InSizes (cut_of c z) h i j → InSizes (cut_of c z) h' i' j'
       → address_at c h i j ≡ address_at c h' i' j' → (h ≡ h') × (i ≡ i') × (j ≡ j')
@@ -151,17 +133,14 @@ module _ (c : Contraction) (z : Sizes) (w : Slices) (ok : AllPassed (tensors c) 
       start : ℕ
       start = start_of c.named (entry c w C (output_index c h i j)) (entry c w D (output_index c h i j))
 
-  -- a place that no counts address is addressed by no index
-  pub not_addressed : (x : ℕ) → ((h i j : ℕ) → InSizes (cut_of c z) h i j → address_at c h i j ≢ x)
-      → (ρ : ℕ → ℕ) → InRange (axes (tensors c D)) ρ → address (tensors c D) ρ ≢ x
-  unfolding address_at index group
-  not_addressed x off ρ r e =
-      let n = parts_onto (tensors c) (rw ok.agree tt) D (in_group (shape_in c)) (groups_of D) (out_groups (shape_in c)) ρ r in
-      off (n.0 batch) (n.0 row) (n.0 column) (n.1.0, n.1.1.0, n.1.1.1.0) (n.2 ∙ e)
-
   -- and its old words elsewhere
   result_miss : (x : ℕ) → ((h i j : ℕ) → InSizes (cut_of c z) h i j → address_at c h i j ≢ x) → get_or (result c w) x 0 ≡ get_or (w D) x 0
-  result_miss x off = result_elsewhere c w ok x (not_addressed x off)
+  unfolding address_at index group
+  result_miss x off =
+      result_elsewhere c w ok x
+      (λ ρ r e.
+      let n = parts_onto (tensors c) (rw ok.agree tt) D (in_group (shape_in c)) (groups_of D) (out_groups (shape_in c)) ρ r in
+      off (n.0 batch) (n.0 row) (n.0 column) (n.1.0, n.1.1.0, n.1.1.1.0) (n.2 ∙ e))
 
   pub closed_result : closed (setting c z w) (total (cut_of c z)) (w D) ≡ result c w
   unfolding setting

@@ -1,2 +1,1 @@
 pub mod StatusCases
-pub mod Handed

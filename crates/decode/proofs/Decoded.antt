@@ -8,7 +8,7 @@ use native.Mathlib.Omega.{arith}
 use lib.IntN.{ℤ}
 use lib.ListN.{length, take, drop, replicate, length-take}
 use Rattle.words.specs.Words.{signed}
-use Rattle.words.proofs.Fronts.{CameBack}
+use Rattle.words.proofs.Lent.{CameBack}
 use Rattle.layout.specs.declared.layout.Layout.{Layout}
 use Rattle.layout.specs.Layout.{layout_of}
 use Rattle.little_endian.specs.Bytes.{little, numbers}

@@ -11,7 +11,7 @@ use Rattle.limits.specs.Limits.{slice_limit}
 use Rattle.scores.specs.Score.{signed_at, score}
 use Rattle.scores.proofs.DelaySound.{DelaySound, delay_sound}
 use Rattle.delay.specs.ExactScores.{AllWords, scored, ExactScores, EveryScoreExact}
-use Rattle.words.proofs.Congruent.{size_mul, stands_mul, stands_signed, stands_sum, size_sum, stands_read}
+use Rattle.delay.proofs.Congruent.{size_mul, stands_mul, stands_signed, stands_sum, size_sum, stands_read}
 use Rattle.delay.proofs.ScoringAccepted.{Sized, call_is_done, score_word}
 
 module _ (xs ys : List ℕ) (greatest : ℕ) (q : DelaySound xs ys greatest) where

@@ -1,2 +1,3 @@
+pub mod Congruent
 pub mod ExactScores
 pub mod ScoringAccepted

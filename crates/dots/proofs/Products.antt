@@ -1,15 +1,10 @@
--- Sums of products along a run, one product after the other, at places that are inside.
+-- Sums of products along a run, one product after the other.
 -- Assumes nothing.
 use Rattle.std.proofs.Common.{◌≡◌, ℕ, ◌+◌, ◌*◌, ◌<◌, List, get_or, add-one}
 use Rattle.words.specs.Words.{word}
-use Rattle.words.specs.Loops.{Within}
 use Rattle.words.proofs.Modular.{word_sum}
 use Rattle.words.proofs.Sums.{sum_to_ext}
 use Rattle.dots.specs.Dot.{dot}
-
--- an address word that is the place of a count
-pub placed : {n : ℕ} {place : ℕ → ℕ} {len i v : ℕ} → Within n place len → i ≡ place v → v < n → i < len
-placed {v = v} w e h = rw e (w.each v h)
 
 -- one product more
 pub product_more : (a b : List ℕ) (f g : ℕ → ℕ) (v : ℕ) {i j sum p r : ℕ}

@@ -25,12 +25,6 @@ use Rattle.letters.proofs.LetterCases.{letter_cases}
 use Rattle.flat.proofs.FlatLayoutCases.{flat_layout_cases}
 use Rattle.answers.proofs.StatusCases.{status_cases}
 use Rattle.scores.proofs.DelayCases.{delay_cases}
-use Rattle.rounding.proofs.RoundingCases.{rounding_cases}
-use Rattle.small_words.proofs.SmallCases.{small_cases}
-use Rattle.exact_sums.proofs.ExactCases.{exact_cases}
-use Rattle.fixed_questions.proofs.FixedQuestionCases.{fixed_question_cases}
-use Rattle.fixed.proofs.FixedCases.{fixed_cases}
-use Rattle.flat_fixed.proofs.FlatFixedCases.{flat_fixed_cases}
 use Rattle.edges.specs.Pinned.{Pinned}
 use Rattle.edges.proofs.Starred.{edges_hold}
 use Rattle.edges.proofs.LabelKinds.{label_kind_cases}
@@ -65,12 +59,6 @@ pinned =
       letters = letter_cases;
       printed = job_cases;
       delays = delay_cases;
-      rounded = rounding_cases;
-      small_words = small_cases;
-      exact_sums = exact_cases;
-      of_fixed_point = fixed_question_cases;
-      in_fixed_point = fixed_cases;
       layout_words = flat_layout_cases;
       numbers = status_cases;
-      fixed_numbers = flat_fixed_cases;
     }

@@ -27,12 +27,6 @@ use Rattle.letters.specs.LetterCases.{LetterCases}
 use Rattle.flat.specs.FlatLayoutCases.{FlatLayoutCases}
 use Rattle.answers.specs.StatusCases.{StatusCases}
 use Rattle.scores.specs.DelayCases.{DelayCases}
-use Rattle.rounding.specs.RoundingCases.{RoundingCases}
-use Rattle.small_words.specs.SmallCases.{SmallCases}
-use Rattle.exact_sums.specs.ExactCases.{ExactCases}
-use Rattle.fixed_questions.specs.FixedQuestionCases.{FixedQuestionCases}
-use Rattle.fixed.specs.FixedCases.{FixedCases}
-use Rattle.flat_fixed.specs.FlatFixedCases.{FlatFixedCases}
 use Rattle.edges.specs.Edges.{edges, Holds}
 use Rattle.edges.specs.LabelKinds.{LabelKindCases}
 use Rattle.edges.specs.JobCases.{JobCases}
@@ -69,13 +63,6 @@ pub record Pinned : Type 0 where
   pub printed : JobCases
   -- two recordings
   pub delays : DelayCases
-  -- fixed point
-  pub rounded : RoundingCases
-  pub small_words : SmallCases
-  pub exact_sums : ExactCases
-  pub of_fixed_point : FixedQuestionCases
-  pub in_fixed_point : FixedCases
   -- the calls for C and Rust: a layout's words, and the numbers that are returned and set
   pub layout_words : FlatLayoutCases
   pub numbers : StatusCases
-  pub fixed_numbers : FlatFixedCases

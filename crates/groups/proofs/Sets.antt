@@ -21,7 +21,7 @@ use Rattle.contraction.specs.Operands.{Operand, A, B, D, together}
 use Rattle.contraction.specs.TensorAxes.{shape_of, Gathered}
 use Rattle.contraction.proofs.Together.{every_together}
 use Rattle.groups.specs.declared.groups.Sets.{Sets}
-use Rattle.groups.specs.Groups.{Group, batch, row, column, depth, group_by, group_of, group_number, in_group, group, owned, outputs, label, letters}
+use Rattle.groups.specs.Groups.{Group, batch, row, column, depth, group_by, group_of, group_number, in_group, group, outputs, label, letters}
 use Rattle.groups.specs.Sets.{Split, sets_in}
 
 -- ---- the four sets
@@ -71,14 +71,11 @@ module _ (x : Operands) (h : Gathered x) where
       (all_imp (λ a. T_true (is_letter a.letter)) xs
       (every_all (λ (a : Axis). is_letter a.letter) xs (every_together (λ (a : Axis). is_letter a.letter) (shape_of x) (λ o. (h.each o).checked.letters)))))
 
-  -- the labels of the letters that a tensor's set has are its labels
-  pub kept_owned : (o : Operand) (l : Letters) → Spells l (labels (shape_of x o)) → map (label (shape_of x)) (keep (has l.set) (labels (together (shape_of x)))) ≡ owned (shape_of x) o
-  kept_owned o l e =
-      rw (keep_ext (has l.set) (λ c. member c (letters (shape_of x) o)) (labels (together (shape_of x))) (all_imp (has_letter o l e) (labels (together (shape_of x))) valid))
-
+  -- the labels of the letters that D's set has are D's labels
   pub kept_output : (l : Letters) → Spells l (labels (shape_of x D)) → map (label (shape_of x)) (keep (has l.set) (labels (together (shape_of x)))) ≡ outputs (shape_of x)
   unfolding outputs
-  kept_output = kept_owned D
+  kept_output l e =
+      rw (keep_ext (has l.set) (λ c. member c (letters (shape_of x) D)) (labels (together (shape_of x))) (all_imp (has_letter D l e) (labels (together (shape_of x))) valid))
 
   module _ (ls : Operand → Letters) (spelt : (o : Operand) → Spells (ls o) (labels (shape_of x o))) (r : Sets) (s : Split (ls A).set (ls B).set (ls D).set r) (g : Group) where
     in_set_lem : All (λ c. has (sets_in r g) c ≡ in_group (shape_of x) g c) (labels (together (shape_of x)))

@@ -50,13 +50,9 @@ labels_where s p = map (label s) (keep p (labels (together s)))
 unfoldable pub group : Shape → Group → List Label
 group s g = labels_where s (in_group s g)
 
--- a tensor's labels
-abbrev pub owned : Shape → Operand → List Label
-owned s o = labels_where s (λ c. member c (letters s o))
-
 -- D's labels in order of first appearance: those of the batch, row and column groups
 unfoldable pub outputs : Shape → List Label
-outputs s = owned s D
+outputs s = labels_where s (λ c. member c (letters s D))
 
 -- the product of the extents; an empty group has size 1
 abbrev pub size : List Label → ℕ

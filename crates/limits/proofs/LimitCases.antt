@@ -22,8 +22,4 @@ limit_cases =
       used = refl;
       lowest = refl;
       highest = refl;
-      shifts = refl;
-      terms = refl;
-      least_entry_lem = refl;
-      greatest_entry_lem = refl;
     }

@@ -3,7 +3,6 @@
 use Rattle.std.specs.Prelude.{◌≡◌, pos, neg_ℤ}
 use Rattle.limits.specs.Limits.{rank_limit, extent_limit, stride_limit, base_limit, slice_limit, product_limit}
 use Rattle.limits.specs.Limits.{rows_limit, cols_limit, depth_limit, block_limit, job_limit, work_room, lag_limit, used_limit, least_sample, greatest_sample}
-use Rattle.limits.specs.Limits.{shift_limit, terms_limit, least_entry, greatest_entry}
 
 pub record LimitCases : Type 0 where
   -- "at most 8 letters", "Extents become 0 to 65,536"
@@ -28,8 +27,3 @@ pub record LimitCases : Type 0 where
   pub used : used_limit ≡ 256
   pub lowest : least_sample ≡ neg_ℤ (pos 2048)
   pub highest : greatest_sample ≡ pos 2047
-  -- "a shift s from 0 to 15", "the depth size is over 65,536", "outside -32,768 to 32,767"
-  pub shifts : shift_limit ≡ 15
-  pub terms : terms_limit ≡ 65536
-  pub least_entry_lem : least_entry ≡ neg_ℤ (pos 32768)
-  pub greatest_entry_lem : greatest_entry ≡ pos 32767

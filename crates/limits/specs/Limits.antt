@@ -66,18 +66,6 @@ greatest_sample = pos 2047
 abbrev pub lag_room : ℕ  -- room in the code for the scores of all lags
 lag_room = lag_limit + 1
 
-abbrev pub shift_limit : ℕ  -- in fixed point: the greatest shift
-shift_limit = 15
-
-abbrev pub terms_limit : ℕ  -- the greatest depth size
-terms_limit = 65536
-
-abbrev pub least_entry : ℤ  -- the least entry of A and of B, -32,768, and the greatest
-least_entry = negsuc 32767
-
-abbrev pub greatest_entry : ℤ
-greatest_entry = pos 32767
-
 abbrev pub limits : Limits
 limits =
     record {
@@ -102,8 +90,4 @@ limits =
       low = least_sample;
       high = greatest_sample;
       lags = lag_room;
-      shift = shift_limit;
-      terms = terms_limit;
-      least = least_entry;
-      greatest = greatest_entry;
     }

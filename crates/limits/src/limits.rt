@@ -25,10 +25,6 @@ pub struct Limits {
     pub low: i32,
     pub high: i32,
     pub lags: usize,
-    pub shift: u32,
-    pub terms: u32,
-    pub least: i32,
-    pub greatest: i32,
 }
 
 impl Limits {
@@ -73,14 +69,6 @@ impl Limits {
     pub const HIGH: i32 = 2047;
     // The scores of all lags.
     pub const LAGS: usize = 65;
-    // In fixed point: the greatest shift, the greatest depth size, and the least and the greatest entry of A and B.
-    pub const SHIFT: u32 = 15;
-
-    pub const TERMS: u32 = 65536;
-
-    pub const LEAST: i32 = -32768;
-
-    pub const GREATEST: i32 = 32767;
 
     // The constants are those that the definitions name.
     pub fn all() -> Limits
@@ -108,10 +96,6 @@ impl Limits {
             low: Limits::LOW,
             high: Limits::HIGH,
             lags: Limits::LAGS,
-            shift: Limits::SHIFT,
-            terms: Limits::TERMS,
-            least: Limits::LEAST,
-            greatest: Limits::GREATEST,
         }
     }
 }

@@ -17,7 +17,7 @@ use Rattle.contraction.specs.Operands.{C, D, tensors}
 use Rattle.questions.proofs.Ready.{AllPassed, accepted_parts}
 use Rattle.groups.specs.Groups.{depth, group, outputs, size}
 use Rattle.meaning.specs.Index.{out_index}
-use Rattle.meaning.specs.Meaning.{Slices, lengths_in, shape_in, start_of, entry, value, values_put, result}
+use Rattle.meaning.specs.Meaning.{Slices, lengths_in, shape_in, start_of, entry, value, result}
 use Rattle.meaning.specs.Demand2.{Demand2, ResultMeetsDemand2, EmptyLayers, EmptyLayersHold}
 use Rattle.meaning.proofs.EngineIndices.{out_in_range}
 use Rattle.meaning.proofs.Result.{length_result, term, value_counts}
@@ -59,7 +59,7 @@ module _ (c : Contraction) (w : Slices) (p : AllPassed (tensors c) (lengths_in c
           absurd (rw e at (in_range_some (axes (tensors c D)) (out_index (shape_in c) 0) (out_in_range (shape_in c) (rw p.agree tt) 0 first)))
 
   unchanged : has_entries (axes (tensors c D)) ≡ false → result c w ≡ w D
-  unfolding result values_put each
+  unfolding result each
   unchanged e =
       ap (λ (n : ℕ). overwrite n (λ m. address (tensors c D) (out_index (shape_in c) m)) (λ m. value c w (out_index (shape_in c) m)) (w D)) (no_count e)
 

@@ -8,9 +8,9 @@ use lib.Dec.{T, eqb}
 use Rattle.words.specs.Lists.{member}
 use Rattle.points.specs.LabelQuestions.{extents_agree}
 use Rattle.entries.specs.Bounds.{InRange}
-use Rattle.contraction.specs.Operands.{Operand, A, B, D, Shape, together}
-use Rattle.groups.specs.Groups.{letters, depth, group_by, group_of, group_number, in_group, owned, outputs, size}
-use Rattle.meaning.specs.Index.{at, out_index}
+use Rattle.contraction.specs.Operands.{A, B, D, Shape, together}
+use Rattle.groups.specs.Groups.{letters, depth, group_by, group_of, group_number, in_group, outputs, size}
+use Rattle.meaning.specs.Index.{out_index}
 use Rattle.meaning.proofs.IndexParts.{Part, Separate, covered, Splits, parts_in_range}
 use Rattle.meaning.proofs.Outputs.{in_d, is_depth, depth_not_in}
 use Rattle.meaning.proofs.OwnGroups.{groups_of, own_separate}
@@ -27,39 +27,21 @@ module _ (s : Shape) where
       go false true true = refl
       go a false true = refl
 
-  -- ---- a tensor's own labels
-  module _ (o : Operand) where
-    abbrev pub owned_at : ℕ → Part
-    owned_at m = record { test = λ c. member c (letters s o); count = m }
-
-    pub owned_separate : (m : ℕ) → Separate (owned_at m ∷ [])
-    owned_separate m = (λ c e. tt, tt)
-
-    pub owned_covers : (m c : ℕ) → member c (letters s o) ≡ true → covered c (owned_at m ∷ []) ≡ true
-    owned_covers m c e = rw e
-
-    pub owned_labels : Splits s o (λ (u : Unit {0}) c. member c (letters s o)) (tt ∷ [])
-    owned_labels = record { separate = λ n. owned_separate (n tt); covers = λ n c. or-false (member c (letters s o)) }
-
-    -- the index of a count gives them values below their extents
-    pub owned_in_range : T (extents_agree (together s)) → (m : ℕ) → m < size (owned s o) → InRange (s o) (at (owned s o) m (λ c. 0))
-    owned_in_range same m h = parts_in_range s same o (owned_at m ∷ []) (h, tt) (owned_covers m)
-
   -- ---- outputs
   abbrev pub output_at : ℕ → Part
-  output_at = owned_at D
+  output_at m = record { test = in_d s; count = m }
 
   abbrev pub depth_at : ℕ → Part
   depth_at k = record { test = in_group s depth; count = k }
 
   pub out_separate : (m : ℕ) → Separate (output_at m ∷ [])
-  out_separate = owned_separate D
+  out_separate m = (λ c e. tt, tt)
 
   pub out_covers : (m c : ℕ) → in_d s c ≡ true → covered c (output_at m ∷ []) ≡ true
-  out_covers = owned_covers D
+  out_covers m c e = rw e
 
   pub out_labels : Splits s D (λ (u : Unit {0}). in_d s) (tt ∷ [])
-  out_labels = owned_labels D
+  out_labels = record { separate = λ n. out_separate (n tt); covers = λ n c. or-false (in_d s c) }
 
   pub term_separate : (m k : ℕ) → Separate (depth_at k ∷ output_at m ∷ [])
   term_separate m k = (λ c e. (depth_not_in s c e, tt), (λ c e. tt, tt))
@@ -75,4 +57,4 @@ module _ (s : Shape) where
   -- an output's index gives D's labels values below their extents
   pub out_in_range : T (extents_agree (together s)) → (m : ℕ) → m < size (outputs s) → InRange (s D) (out_index s m)
   unfolding outputs out_index
-  out_in_range same m h = owned_in_range D same m h
+  out_in_range same m h = parts_in_range s same D (output_at m ∷ []) (h, tt) (out_covers m)

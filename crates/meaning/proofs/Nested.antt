@@ -1,12 +1,14 @@
--- A sum over all values of the labels of a group is a sum over the counts of the group, of numbers and of whole numbers alike.
+-- A sum over all values of the labels of a group is a sum over the counts of the group.
 -- Assumes nothing.
 use mathlib.Core.Path.{◌≡◌, refl, ap, sym, ◌∙◌, fun_ext}
 use mathlib.Core.Bool.{Bool, true, false, cond, true≢false}
 use mathlib.Core.List.{List, [], ◌∷◌}
 use Prim.Native.Nat.{ℕ, ◌+◌, ◌*◌, ◌/◌, ◌%◌, ◌<◌}
+use native.Mathlib.Omega.{arith}
 use lib.Dec.{eqb}
+use Rattle.words.specs.Sums.{sum_to}
 use Rattle.words.proofs.Lists.{eqb-true, eqb_self}
-use Rattle.words.proofs.Totals.{SumLaws}
+use Rattle.words.proofs.Sums.{sum_to_ext, sum_to_mul, sum_to_swap}
 use Rattle.groups.specs.Groups.{Label, size}
 use Rattle.offsets.proofs.Digits.{lowest, rest}
 use Rattle.meaning.specs.Index.{assign, at, sum_over}
@@ -30,11 +32,11 @@ at_assign [] m ρ c v h = refl
 at_assign (l ∷ g) m ρ c v h =
     rw (at_assign g (m / l.extent) ρ c v h.1) (assign_comm (at g (m / l.extent) ρ) c v l.letter (m % l.extent) h.0)
 
-module _ {X : Type 0} {none : X} {sum : ℕ → (ℕ → X) → X} (laws : SumLaws none sum) where
-  pub sum_over_counts : (g : List Label) (f : (ℕ → ℕ) → X) (ρ : ℕ → ℕ) → Distinct g → sum_over sum g f ρ ≡ sum (size g) (λ n. f (at g n ρ))
-  sum_over_counts [] f ρ d = sym (laws.one (λ n. f ρ))
-  sum_over_counts (l ∷ g) f ρ d =
-      laws.ext l.extent (λ v _. sum_over_counts g f (assign ρ l.letter v) d.1)
-      ∙ laws.swap l.extent (size g) (λ v m. f (at g m (assign ρ l.letter v)))
-      ∙ laws.ext (size g) (λ m _. laws.ext l.extent (λ v h. ap f (at_assign g m ρ l.letter v d.0 ∙ sym (at_cons l g ρ m v h))))
-      ∙ sym (laws.mul l.extent (size g) (λ n. f (at (l ∷ g) n ρ)))
+pub sum_over_is_sum_to : (g : List Label) (f : (ℕ → ℕ) → ℕ) (ρ : ℕ → ℕ) → Distinct g → sum_over g f ρ ≡ sum_to (size g) (λ n. f (at g n ρ))
+unfolding sum_to
+sum_over_is_sum_to [] f ρ d = omega arith
+sum_over_is_sum_to (l ∷ g) f ρ d =
+    sum_to_ext l.extent (λ v _. sum_over_is_sum_to g f (assign ρ l.letter v) d.1)
+    ∙ sum_to_swap l.extent (size g) (λ v m. f (at g m (assign ρ l.letter v)))
+    ∙ sum_to_ext (size g) (λ m _. sum_to_ext l.extent (λ v h. ap f (at_assign g m ρ l.letter v d.0 ∙ sym (at_cons l g ρ m v h))))
+    ∙ sym (sum_to_mul l.extent (size g) (λ n. f (at (l ∷ g) n ρ)))

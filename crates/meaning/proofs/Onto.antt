@@ -18,14 +18,15 @@ use Rattle.labels.specs.Labels.{extent_of, labels}
 use Rattle.points.specs.LabelQuestions.{extents_agree}
 use Rattle.entries.specs.Bounds.{InRange}
 use Rattle.contraction.specs.Operands.{Operand, D, Shape, shape, together}
-use Rattle.groups.specs.Groups.{Label, label, letters, labels_where, owned, outputs, size}
+use Rattle.groups.specs.Groups.{Label, label, letters, labels_where, outputs, size}
 use Rattle.offsets.proofs.Digits.{lowest, rest}
 use Rattle.meaning.specs.Index.{at, out_index}
 use Rattle.meaning.proofs.CountAddress.{Distinct, where_distinct, where_all, where_clear}
 use Rattle.meaning.proofs.ExtentsAgree.{agree}
 use Rattle.meaning.proofs.Index.{letter_in_lem, where_at}
 use Rattle.meaning.proofs.IndexParts.{Below, covered, parts_at, Splits, at_parts}
-use Rattle.meaning.proofs.EngineIndices.{owned_labels}
+use Rattle.meaning.proofs.Outputs.{in_d}
+use Rattle.meaning.proofs.EngineIndices.{out_labels}
 
 -- the index gives each label of the list a value below its extent
 abbrev pub Within : List Label → (ℕ → ℕ) → Type 0
@@ -99,14 +100,8 @@ module _ (t : Operand → Layout) (same : T (extents_agree (together (shape t)))
           let m : member c (letters (shape t) o) ≡ true = sym (h.covers (counts_of (shape t) test ρ) c) ∙ e in
           rw (← agree (shape t) same o c m) (all_member (λ c. ρ c < extent_of c (axes (t o))) c (labels (axes (t o))) i (member_distinct c (letters (shape t) o) m))
 
-  -- of a count of all its labels
-  pub owned_onto : (o : Operand) (ρ : ℕ → ℕ) → InRange (axes (t o)) ρ
-      → (m : ℕ) × (m < size (owned (shape t) o)) × (address (t o) (at (owned (shape t) o) m (λ c. 0)) ≡ address (t o) ρ)
-  owned_onto o ρ h =
-      let r = parts_onto o (λ (u : Unit {0}) c. member c (letters (shape t) o)) (tt ∷ []) (owned_labels (shape t) o) ρ h in (r.0 tt, r.1.0, r.2)
-
   -- of an output count of D
   pub outputs_onto : (ρ : ℕ → ℕ) → InRange (axes (t D)) ρ
       → (m : ℕ) × (m < size (outputs (shape t))) × (address (t D) (out_index (shape t) m) ≡ address (t D) ρ)
   unfolding outputs out_index
-  outputs_onto = owned_onto D
+  outputs_onto ρ h = let r = parts_onto D (λ (u : Unit {0}). in_d (shape t)) (tt ∷ []) (out_labels (shape t)) ρ h in (r.0 tt, r.1.0, r.2)

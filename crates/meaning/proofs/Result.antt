@@ -9,7 +9,6 @@ use lib.Dec.{T}
 use lib.ListN.{length, get_or}
 use Rattle.words.specs.Sums.{All, sum_to}
 use Rattle.words.specs.Words.{word}
-use Rattle.words.proofs.Totals.{sum_to_laws}
 use Rattle.words.proofs.Store.{length_puts, puts_other, puts_at}
 use Rattle.words.proofs.Lists.{all_member, member_distinct}
 use Rattle.layout.specs.declared.layout.Layout.{Layout}
@@ -24,9 +23,9 @@ use Rattle.contraction.specs.declared.contraction.Contraction.{Contraction}
 use Rattle.contraction.specs.Operands.{Operand, A, B, C, D, tensors, shape, together}
 use Rattle.groups.specs.Groups.{letters, depth, group, outputs, size}
 use Rattle.meaning.specs.Index.{at, out_index}
-use Rattle.meaning.specs.Meaning.{Slices, shape_in, start_of, entry, value, values_put, result}
+use Rattle.meaning.specs.Meaning.{Slices, shape_in, start_of, entry, value, result}
 use Rattle.meaning.proofs.CountAddress.{group_distinct}
-use Rattle.meaning.proofs.Nested.{sum_over_counts}
+use Rattle.meaning.proofs.Nested.{sum_over_is_sum_to}
 use Rattle.meaning.proofs.IndexParts.{Below, parts_at, Splits, at_parts, parts_in_range, parts_injective}
 use Rattle.meaning.proofs.Outputs.{in_d}
 use Rattle.meaning.proofs.EngineIndices.{out_labels, out_in_range}
@@ -64,34 +63,28 @@ module _ (t : Operand → Layout) (n : ℕ) (same : T (extents_agree (together (
   outputs_apart spread i k p q e =
       (parts_apart spread (λ (u : Unit {0}). in_d (shape t)) (tt ∷ []) (out_labels (shape t)) (λ u. i) (λ u. k) (p, tt) (q, tt) e).0
 
--- values at the output indices' addresses
-module _ (c : Contraction) (value_at : (ℕ → ℕ) → ℕ) (d : List ℕ) where
+module _ (c : Contraction) (w : Slices) where
   -- the address of an output count, and the value that is put there
   abbrev place : ℕ → ℕ
   place m = address (tensors c D) (out_index (shape_in c) m)
 
   abbrev made : ℕ → ℕ → ℕ
-  made m was = value_at (out_index (shape_in c) m)
+  made m was = value c w (out_index (shape_in c) m)
 
-  pub put_at : T (extents_agree (together (shape_in c))) → T (inside (axes (tensors c D)) (tensors c D).base (length d)) → T (apart (axes (tensors c D)))
-      → (m : ℕ) → m < size (outputs (shape_in c)) → get_or (values_put c value_at d) (place m) 0 ≡ value_at (out_index (shape_in c) m)
-  unfolding values_put
-  put_at same fits spread =
-      puts_at place made (size (outputs (shape_in c))) d
-      (outputs_apart (tensors c) (length d) same fits spread) (record { each = λ m h. (output_inside (tensors c) (length d) same fits m h).1 })
+  pub result_at : T (extents_agree (together (shape_in c))) → T (inside (axes (tensors c D)) (tensors c D).base (length (w D))) → T (apart (axes (tensors c D)))
+      → (m : ℕ) → m < size (outputs (shape_in c)) → get_or (result c w) (place m) 0 ≡ value c w (out_index (shape_in c) m)
+  unfolding result
+  result_at same fits spread =
+      puts_at place made (size (outputs (shape_in c))) (w D)
+      (outputs_apart (tensors c) (length (w D)) same fits spread) (record { each = λ m h. (output_inside (tensors c) (length (w D)) same fits m h).1 })
 
-  pub put_length : length (values_put c value_at d) ≡ length d
-  unfolding values_put
-  put_length = length_puts place made (size (outputs (shape_in c))) d
-
-  pub put_other : (p : ℕ) → ((m : ℕ) → m < size (outputs (shape_in c)) → place m ≢ p) → get_or (values_put c value_at d) p 0 ≡ get_or d p 0
-  unfolding values_put
-  put_other p = puts_other place made (size (outputs (shape_in c))) p d
-
-module _ (c : Contraction) (w : Slices) where
   pub length_result : length (result c w) ≡ length (w D)
   unfolding result
-  length_result = put_length c (value c w) (w D)
+  length_result = length_puts place made (size (outputs (shape_in c))) (w D)
+
+  pub result_other : (p : ℕ) → ((m : ℕ) → m < size (outputs (shape_in c)) → place m ≢ p) → get_or (result c w) p 0 ≡ get_or (w D) p 0
+  unfolding result
+  result_other p = puts_other place made (size (outputs (shape_in c))) p (w D)
 
   -- the product of the entries of A and B at a depth count
   abbrev pub term : (ℕ → ℕ) → ℕ → ℕ
@@ -100,4 +93,4 @@ module _ (c : Contraction) (w : Slices) where
   -- the sum of a value runs over the counts of the depth group
   pub value_counts : (ρ : ℕ → ℕ) → value c w ρ ≡ word 32 (c.alpha * sum_to (size (group (shape_in c) depth)) (term ρ) + c.beta * start_of c.named (entry c w C ρ) (entry c w D ρ))
   unfolding value
-  value_counts ρ = rw (sum_over_counts sum_to_laws (group (shape_in c) depth) (λ σ. entry c w A σ * entry c w B σ) ρ (group_distinct (shape_in c) depth))
+  value_counts ρ = rw (sum_over_is_sum_to (group (shape_in c) depth) (λ σ. entry c w A σ * entry c w B σ) ρ (group_distinct (shape_in c) depth))

@@ -23,14 +23,14 @@ use Rattle.contraction.specs.Operands.{Operand, A, B, C, D, Shape, tensors, toge
 use Rattle.questions.proofs.Ready.{AllPassed}
 use Rattle.groups.specs.Groups.{letters, depth, group, size}
 use Rattle.meaning.specs.Index.{at, out_index}
-use Rattle.meaning.specs.Meaning.{Slices, lengths_in, shape_in, entry, value, values_put, result}
+use Rattle.meaning.specs.Meaning.{Slices, lengths_in, shape_in, entry, value, result}
 use Rattle.meaning.proofs.Index.{letter_in_lem, group_same}
 use Rattle.meaning.proofs.OwnGroups.{c_in_d}
 use Rattle.meaning.proofs.Outputs.{is_depth, not_depth}
 use Rattle.meaning.proofs.EngineIndices.{out_in_range}
 use Rattle.meaning.proofs.CountAddress.{clear}
 use Rattle.meaning.proofs.Onto.{outputs_onto}
-use Rattle.meaning.proofs.Result.{put_at, put_other, term, value_counts}
+use Rattle.meaning.proofs.Result.{result_at, result_other, term, value_counts}
 
 -- the two indices agree on D's letters
 pub record Agree (s : Shape) (ρ σ : ℕ → ℕ) : Type 0 where
@@ -38,7 +38,7 @@ pub record Agree (s : Shape) (ρ σ : ℕ → ℕ) : Type 0 where
 
 module _ (c : Contraction) (w : Slices) (alike : letters_same (axes (tensors c C)) (axes (tensors c D)) ≡ true) (ρ σ : ℕ → ℕ) (same : Agree (shape_in c) ρ σ) where
   -- with a depth count they agree on every tensor's letters
-  pub term_agrees : (k : ℕ) (o : Operand) (x : ℕ) → member x (letters (shape_in c) o) ≡ true → at (group (shape_in c) depth) k ρ x ≡ at (group (shape_in c) depth) k σ x
+  term_agrees : (k : ℕ) (o : Operand) (x : ℕ) → member x (letters (shape_in c) o) ≡ true → at (group (shape_in c) depth) k ρ x ≡ at (group (shape_in c) depth) k σ x
   term_agrees k o x m = go (member x (letters (shape_in c) D)) refl
     where
       go : (b : Bool) → member x (letters (shape_in c) D) ≡ b → at (group (shape_in c) depth) k ρ x ≡ at (group (shape_in c) depth) k σ x
@@ -46,7 +46,7 @@ module _ (c : Contraction) (w : Slices) (alike : letters_same (axes (tensors c C
           clear (shape_in c) depth k ρ x (not_depth (shape_in c) x e) ∙ same.each x e ∙ sym (clear (shape_in c) depth k σ x (not_depth (shape_in c) x e))
       go false e = group_same (shape_in c) depth k ρ σ x (letter_in_lem (shape_in c) o x m) (is_depth (shape_in c) x e)
 
-  pub entry_agrees : (o : Operand) (π τ : ℕ → ℕ) → ((x : ℕ) → member x (letters (shape_in c) o) ≡ true → π x ≡ τ x) → entry c w o π ≡ entry c w o τ
+  entry_agrees : (o : Operand) (π τ : ℕ → ℕ) → ((x : ℕ) → member x (letters (shape_in c) o) ≡ true → π x ≡ τ x) → entry c w o π ≡ entry c w o τ
   unfolding entry
   entry_agrees o π τ h =
       ap (λ (x : ℕ). get_or (w o) x 0) (address_agree (tensors c o) π τ (all_imp (λ a. h a.letter) (axes (tensors c o)) (covers (λ a. a.letter) (axes (tensors c o)))))
@@ -60,13 +60,11 @@ module _ (c : Contraction) (w : Slices) (alike : letters_same (axes (tensors c C
       value_counts c w ρ
       ∙ rw (sum_agrees, entry_agrees D ρ σ same.each, entry_agrees C ρ σ (λ x m. same.each x (c_in_d (shape_in c) alike x m))) (sym (value_counts c w σ))
 
--- values that depend on an index only by D's labels, put at the output indices' addresses
 module _ (c : Contraction) (w : Slices) (p : AllPassed (tensors c) (lengths_in c w)) where
   -- each word that D's layout addresses holds the value at its index
-  pub put_in_range : (value_at : (ℕ → ℕ) → ℕ) → ((ρ σ : ℕ → ℕ) → Agree (shape_in c) ρ σ → value_at ρ ≡ value_at σ)
-      → (ρ : ℕ → ℕ) → InRange (axes (tensors c D)) ρ → get_or (values_put c value_at (w D)) (address (tensors c D) ρ) 0 ≡ value_at ρ
+  pub result_in_range : (ρ : ℕ → ℕ) → InRange (axes (tensors c D)) ρ → get_or (result c w) (address (tensors c D) ρ) 0 ≡ value c w ρ
   unfolding labels
-  put_in_range value_at alike ρ h =
+  result_in_range ρ h =
       let t = tensors c in
       let s = shape_in c in
       let fits : T (inside (axes (t D)) (t D).base (length (w D))) = rw (p.within D) tt in
@@ -75,19 +73,10 @@ module _ (c : Contraction) (w : Slices) (p : AllPassed (tensors c) (lengths_in c
       let m = outputs_onto t equal ρ h in
       let k = out_in_range s equal m.0 m.1 in
       let agrees = apart_injective (t D) spread (length (w D)) (out_index s m.0) ρ k h (inside_every (t D) (length (w D)) fits _ k) (inside_every (t D) (length (w D)) fits ρ h) m.2 in
-      ap (λ (x : ℕ). get_or (values_put c value_at (w D)) x 0) (sym m.2) ∙ put_at c value_at (w D) equal fits spread m.0 m.1
-      ∙ alike (out_index s m.0) ρ
+      ap (λ (x : ℕ). get_or (result c w) x 0) (sym m.2) ∙ result_at c w equal fits spread m.0 m.1
+      ∙ value_agrees c w p.same (out_index s m.0) ρ
       (record { each = λ x e. all_member (λ x. out_index s m.0 x ≡ ρ x) x (labels (axes (t D))) agrees (member_distinct x (letters s D) e) })
 
   -- every other word has its old value
-  pub put_elsewhere : (value_at : (ℕ → ℕ) → ℕ) (x : ℕ) → ((ρ : ℕ → ℕ) → InRange (axes (tensors c D)) ρ → address (tensors c D) ρ ≢ x)
-      → get_or (values_put c value_at (w D)) x 0 ≡ get_or (w D) x 0
-  put_elsewhere value_at x h = put_other c value_at (w D) x (λ m i. h (out_index (shape_in c) m) (out_in_range (shape_in c) (rw p.agree tt) m i))
-
-  pub result_in_range : (ρ : ℕ → ℕ) → InRange (axes (tensors c D)) ρ → get_or (result c w) (address (tensors c D) ρ) 0 ≡ value c w ρ
-  unfolding result
-  result_in_range = put_in_range (value c w) (value_agrees c w p.same)
-
   pub result_elsewhere : (x : ℕ) → ((ρ : ℕ → ℕ) → InRange (axes (tensors c D)) ρ → address (tensors c D) ρ ≢ x) → get_or (result c w) x 0 ≡ get_or (w D) x 0
-  unfolding result
-  result_elsewhere = put_elsewhere (value c w)
+  result_elsewhere x h = result_other c w x (λ m i. h (out_index (shape_in c) m) (out_in_range (shape_in c) (rw p.agree tt) m i))

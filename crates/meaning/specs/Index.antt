@@ -1,6 +1,7 @@
 -- Indices: a value for each letter. The index of counts of groups, and sums over all values of a group's labels.
 -- Assumes nothing.
 use Rattle.std.specs.Prelude.{ℕ, ◌/◌, ◌%◌, cond, List, [], ◌∷◌, eqb}
+use Rattle.words.specs.Sums.{sum_to}
 use Rattle.contraction.specs.Operands.{Shape}
 use Rattle.groups.specs.Groups.{Label, Group, group, outputs}
 
@@ -13,10 +14,10 @@ abbrev pub at : List Label → ℕ → (ℕ → ℕ) → ℕ → ℕ
 at [] n ρ = ρ
 at (l ∷ g) n ρ = assign (at g (n / l.extent) ρ) l.letter (n % l.extent)
 
--- the sum of f over all values of the labels of g, where `sum` sums over the counts below a bound: of numbers, or of whole numbers
-abbrev pub sum_over : {X : Type 0} → (ℕ → (ℕ → X) → X) → List Label → ((ℕ → ℕ) → X) → (ℕ → ℕ) → X
-sum_over sum [] f ρ = f ρ
-sum_over sum (l ∷ g) f ρ = sum l.extent (λ v. sum_over sum g f (assign ρ l.letter v))
+-- the sum of f over all values of the labels of g
+abbrev pub sum_over : List Label → ((ℕ → ℕ) → ℕ) → (ℕ → ℕ) → ℕ
+sum_over [] f ρ = f ρ
+sum_over (l ∷ g) f ρ = sum_to l.extent (λ v. sum_over g f (assign ρ l.letter v))
 
 -- the index at the counts of some groups; a letter of any other group has 0
 unfoldable pub index : Shape → List (Group × ℕ) → ℕ → ℕ

@@ -1,7 +1,6 @@
 -- What a contraction leaves in D: the meaning of TAPP, with repeated labels, labels of one tensor only, and broadcast.
 -- Assumes nothing.
 use Rattle.std.specs.Prelude.{ℕ, ◌+◌, ◌*◌, Bool, cond, List, get_or, length}
-use Rattle.words.specs.Sums.{sum_to}
 use Rattle.words.specs.Words.{word}
 use Rattle.words.specs.Loops.{overwrite}
 use Rattle.layout.specs.Layout.{address}
@@ -42,16 +41,12 @@ module _ (c : Contraction) (w : Slices) where
 
   -- alpha × (the sum, over every label that D lacks, of A's entry × B's entry) + beta × C's entry, or the old word where C is not named
   unfoldable pub value : (ℕ → ℕ) → ℕ
-  value ρ = combined c.alpha c.beta (sum_over sum_to (group (shape_in c) depth) (λ σ. entry A σ * entry B σ) ρ) (start_of c.named (entry C ρ) (entry D ρ))
+  value ρ = combined c.alpha c.beta (sum_over (group (shape_in c) depth) (λ σ. entry A σ * entry B σ) ρ) (start_of c.named (entry C ρ) (entry D ρ))
 
--- D's words d with a value for each output index at its address
-unfoldable pub values_put : Contraction → ((ℕ → ℕ) → ℕ) → List ℕ → List ℕ
-values_put c value_at d =
+-- D's words afterwards: each output index's value at its address
+unfoldable pub result : Contraction → Slices → List ℕ
+result c w =
     overwrite (size (outputs (shape_in c)))
     (λ m. address (tensors c D) (out_index (shape_in c) m))
-    (λ m. value_at (out_index (shape_in c) m))
-    d
-
--- D's words afterwards
-unfoldable pub result : Contraction → Slices → List ℕ
-result c w = values_put c (value c w) (w D)
+    (λ m. value c w (out_index (shape_in c) m))
+    (w D)

@@ -1,1 +1,1 @@
-pub mod Unnamed
+pub mod Handed

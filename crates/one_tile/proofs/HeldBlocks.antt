@@ -1,8 +1,8 @@
 -- The work slice between the tiles of a call. Packing a side leaves the tile's block of it, and the other block and the rest as they were. B's block depends on the
 -- tile's batch count, column block and panel alone, which it shares with the tile before unless its row block is the first.
 -- Assumes nothing.
-use mathlib.Core.Path.{◌≡◌, refl, ap, sym, ◌∙◌, subst}
-use mathlib.Core.Bool.{Bool, true, false, cond, ◌&&◌, true≢false}
+use mathlib.Core.Path.{◌≡◌, refl, ap, sym, ◌∙◌}
+use mathlib.Core.Bool.{Bool, true, false, cond, ◌&&◌}
 use mathlib.Core.Logic.{◌⊎◌, inl, inr}
 use mathlib.Core.List.{List}
 use Prim.Native.Nat.{ℕ, zero, suc, ◌+◌, ◌-◌, ◌*◌, ◌/◌, ◌%◌, ◌≤◌, ◌<◌}
@@ -22,7 +22,7 @@ use Rattle.tiles.proofs.Cuts.{width_le}
 use Rattle.tile_blocks.specs.Side.{Side, left, right, both, size_on, tile_on, block_on}
 use Rattle.tile_packs.specs.TilePacks.{packs, side_width, panel_width, block_start, work_place, side_lanes, side_packed, renewed}
 use Rattle.phases.specs.Phases.{PackedIn}
-use Rattle.one_tile.specs.HeldPacks.{Holds, HeldAfter, AfterTile}
+use Rattle.one_tile.specs.HeldPacks.{Holds, HeldAfter}
 
 module _ (p : Plan) (G : Cut) (x : Tile) (s : Side) (src work : List ℕ) where
   narrow : side_width G x s ≤ tile_on G s
@@ -138,19 +138,10 @@ module _ (p : Plan) (G : Cut) (a b : List ℕ) where
             rest = λ i c. side_other p G x right b first i (inr (omega arith)) ∙ first_behind i (omega arith);
           }
 
-      held_after : HeldAfter p G a b n work (renewed p G x held b first)
+      pub held_after : HeldAfter p G a b n work (renewed p G x held b first)
       held_after = go held refl (ltb 0 x.row) refl
         where
           go : (y : Bool) → held ≡ y → (z : Bool) → ltb 0 x.row ≡ z → HeldAfter p G a b n work (cond (y && z) first (side_packed p G x right b first))
           go true e true f = left_there e (ltb-true 0 x.row f)
           go true e false f = packed_anew
           go false e z f = packed_anew
-
-      -- as the phases leave it, one after the other
-      pub held_by : {one two : List ℕ} → one ≡ first → two ≡ renewed p G x held b one → HeldAfter p G a b n work two
-      held_by e f = subst (HeldAfter p G a b n work) (sym (f ∙ ap (renewed p G x held b) e)) held_after
-
--- a tile that was packed
-pub tile_packed : {p : Plan} {G : Cut} {a b : List ℕ} {n : ℕ} {last packed : Bool} {old new : List ℕ} → packed ≡ true → HeldAfter p G a b n old new
-    → AfterTile p G a b n last packed old new
-tile_packed e h = record { held = λ z. h; same = λ z. absurd (true≢false (sym e ∙ z)); end = λ z. e }

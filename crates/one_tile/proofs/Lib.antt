@@ -1,3 +1,2 @@
 pub mod HeldBlocks
-pub mod TileClear
 pub mod TilePhases

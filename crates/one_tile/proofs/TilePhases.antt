@@ -13,7 +13,7 @@ use Rattle.plan.specs.declared.plan.Plan.{Plan}
 use Rattle.tiles.specs.declared.grid.Tile.{Tile}
 use Rattle.tiles.specs.Cut.{Cut, total, panel_of}
 use Rattle.tiles.specs.Grid.{TileOf}
-use Rattle.tiles.specs.TileWalk.{tile_at, visit_tile, OwnPlaces}
+use Rattle.tiles.specs.TileWalk.{visit_tile, OwnPlaces}
 use Rattle.tiles.specs.Setting.{panel_sum, add_panel, tile_step}
 use Rattle.tiles.proofs.Visits.{visit_same}
 use Rattle.tiles.proofs.Closed.{twice}
@@ -23,15 +23,9 @@ use Rattle.phases.specs.Phases.{PackedIn, from_c, begun, Multiplied}
 use Rattle.thin_tile.specs.ThinTile.{tile_added}
 use Rattle.one_tile.specs.HeldPacks.{Holds}
 
--- what the tile of a number leaves, by where it stands
-pub numbered : {G : Cut} {n : ℕ} {x : Tile} → TileOf G n x → {S : Type 0} (visit : ℕ → ℕ → ℕ → ℕ → S → S) (s : S) {s' : S}
-    → s' ≡ tile_at G visit x.batch x.column x.panel x.row s → s' ≡ visit_tile G visit n s
-unfolding visit_tile
-numbered t visit s q = q ∙ rw (t.batch, t.column, t.panel, t.row)
-
 module _ (p : Plan) {G : Cut} {n : ℕ} {x : Tile} (t : TileOf G n x) (a b : List ℕ) where
   -- what the work slice holds is what the product asks of it
-  pub packed_in : {w : List ℕ} → ((s : Side) → Holds p G a b s n w) → PackedIn p G x a b w
+  packed_in : {w : List ℕ} → ((s : Side) → Holds p G a b s n w) → PackedIn p G x a b w
   packed_in h =
       record {
         each =
@@ -43,8 +37,8 @@ module _ (p : Plan) {G : Cut} {n : ℕ} {x : Tile} (t : TileOf G n x) (a b : Lis
 
   -- what the tile leaves of D's words is what the tile of the number leaves
   pub tile_numbered : (alpha beta : ℕ) (before : List ℕ) {after : List ℕ} → after ≡ tile_added p G x alpha beta a b before → after ≡ tile_step (plan_setting p G false alpha beta a b []) n before
-  unfolding plan_setting
-  tile_numbered alpha beta before q = numbered t _ before q
+  unfolding visit_tile plan_setting
+  tile_numbered alpha beta before q = q ∙ rw (t.batch, t.column, t.panel, t.row)
 
   pub tile_stepped : {alpha beta : ℕ} {w before after : List ℕ} → ((s : Side) → Holds p G a b s n w) → Multiplied p G x alpha beta w before after
       → after ≡ tile_step (plan_setting p G false alpha beta a b []) n before

@@ -10,17 +10,9 @@ use Rattle.odometer.specs.Odometer.{Rows}
 use Rattle.sums.specs.declared.walk.Walk.{Walk}
 use Rattle.sums.specs.Walk.{steps, sum_from, over, Readable, Walks}
 
--- D's words with the one at an output's address word replaced by what f makes of the output's address words and the old word
-abbrev pub filled_by : ((Operand → ℕ) → ℕ → ℕ) → (Operand → ℕ) → List ℕ → List ℕ
-filled_by f at = put (f at) (at D)
-
--- the word that an output gets; where C is named, its words c are read
-abbrev pub made_word : Bool → ℕ → ℕ → List Label → List ℕ → List ℕ → List ℕ → (Operand → ℕ) → ℕ → ℕ
-made_word named alpha beta g a b c at old = combined alpha beta (sum_from g a b at) (start_of named (get_or c (at C) 0) old)
-
--- D's words with it at its place
+-- D's words with the one at an output's address word filled; where C is named, its words c are read
 unfoldable pub filled : Bool → ℕ → ℕ → List Label → List ℕ → List ℕ → List ℕ → (Operand → ℕ) → List ℕ → List ℕ
-filled named alpha beta g a b c = filled_by (made_word named alpha beta g a b c)
+filled named alpha beta g a b c at = put (λ old. combined alpha beta (sum_from g a b at) (start_of named (get_or c (at C) 0) old)) (at D)
 
 -- and with those of n outputs of a run filled, each a step from the one before
 abbrev pub run_filled : Bool → ℕ → ℕ → List Label → List ℕ → List ℕ → List ℕ → Offsets → ℕ → Offsets → List ℕ → List ℕ

@@ -1,17 +1,22 @@
 -- A run of outputs in blocks: a block begins v steps from the run's first output, and its outputs are the run's from v on.
 -- Assumes nothing.
-use Rattle.std.proofs.Common.{◌≡◌, ℕ, ◌+◌, ◌*◌, ◌<◌, ◌≤◌, Bool, List, length, sym, ap, ◌∙◌, arith}
+use Rattle.std.proofs.Common.{◌≡◌, ℕ, ◌+◌, ◌*◌, ◌^◌, ◌<◌, ◌≤◌, Bool, List, length, get_or, sym, ap, ◌∙◌, arith}
 use mathlib.Core.Path.{subst⁻¹, fun_ext}
 use Rattle.words.specs.Words.{word}
 use Rattle.words.specs.Loops.{each}
 use Rattle.words.proofs.Loops.{each_more}
 use Rattle.words.proofs.Modular.{word_add_right}
 use Rattle.contraction.specs.Operands.{Operand, C, D}
+use Rattle.contraction.specs.TensorPlaces.{operand_number}
 use Rattle.groups.specs.Groups.{Label}
 use Rattle.offsets.specs.declared.offsets.Offsets.{Offsets}
 use Rattle.offsets.specs.Offsets.{words_in, Words}
 use Rattle.sums.specs.Walk.{steps, Readable}
 use Rattle.output_run.specs.FilledOutput.{Clear}
+
+-- no step
+pub steps_first : (from step : Offsets) → ((k : ℕ) → get_or from.words k 0 < 2 ^ 64) → words_in from ≡ steps from step 0
+steps_first from step h = fun_ext (λ o. omega (arith, h (operand_number o)))
 
 module _ (from step at : Offsets) (v n : ℕ) (e : words_in at ≡ steps from step v) where
   -- n steps from v steps on

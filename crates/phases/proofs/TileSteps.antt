@@ -35,14 +35,14 @@ use Rattle.tiles.specs.Setting.{Setting, panel_sum, add_panel, visit}
 use Rattle.tiles.specs.TileWalk.{tile_at}
 use Rattle.tiles.proofs.Cuts.{width_le, place_in_lem, panel_width_lem}
 use Rattle.tile_blocks.specs.Side.{Side, left, right, tensor_on, group_on, size_on, tile_on}
-use Rattle.tile_blocks.specs.Planned.{at_batch, place_of_output, read_in, plan_setting}
+use Rattle.tile_blocks.specs.Planned.{at_batch, place_in, place_of_output, plan_setting}
 use Rattle.tile_blocks.specs.TilePlaces.{block_in, Begins, Starts}
-use Rattle.tile_packs.specs.TilePacks.{packs, side_width, panel_width, work_place}
+use Rattle.tile_packs.specs.TilePacks.{packs, side_width, panel_width}
 use Rattle.tile_packs.proofs.SideBlocks.{SideBlock, in_lane, count_in}
 use Rattle.phases.specs.Phases.{OutputClear, from_c, PackedIn}
 
 -- the packed tile's sizes, as the kernel gets them
-abbrev pub packing : Cut → ℕ → Packing
+abbrev packing : Cut → ℕ → Packing
 packing G filled = record { rows = G.rows; cols = G.cols; depth = G.depth; filled = filled }
 
 module _ (p : Plan) (G : Cut) (x : Tile) where
@@ -58,13 +58,6 @@ module _ (p : Plan) (G : Cut) (x : Tile) where
         record {
           each = λ j h. record { each = λ i m. rw (place_out i j m h) (clear.inside _ _ _ begins.batch (count_in p G x left r m) (count_in p G x right c h)) };
         }
-
-    -- columns one after the other, each with its rows, at each of which is done what the tile's visit does
-    pub visited : {S : Type 0} (visit : ℕ → ℕ → ℕ → ℕ → S → S) (body : ℕ → ℕ → S → S)
-        → ((i j : ℕ) → i < rows.count → j < cols.count → (s : S) → body j i s ≡ visit x.panel x.batch (x.row * G.rows + i) (x.column * G.cols + j) s)
-        → (s : S) {t : S} → t ≡ each cols.count (λ j. each rows.count (body j)) s → t ≡ tile_at G visit x.batch x.column x.panel x.row s
-    unfolding tile_at
-    visited visit body same s q = q ∙ each_ext cols.count (λ j l. each_ext rows.count (λ i h. same i j h l)) s ∙ rw (c.used, r.used)
 
   -- ---- C's words are put at D's places
   module _ {rows cols down across : Block} (r : SideBlock p G x C left rows) (c : SideBlock p G x C right cols) {from : ℕ} (e : from ≡ at_batch p x.batch C)
@@ -84,8 +77,9 @@ module _ (p : Plan) (G : Cut) (x : Tile) where
         in_block s k fits = le_trans (in_lane p G x s k fits).fits (in_lane p G x s k fits).narrow
 
     pub copied : (words d : List ℕ) {after : List ℕ} → after ≡ each across.count (column_copied words from rows cols to down across) d → after ≡ from_c p G x words d
+    unfolding tile_at
     copied words d q =
-        visited D u v f (λ q h i j. put (λ old. get_or words (place_of_output p C h i j) 0) (place_of_output p D h i j)) _ one d q
+        q ∙ each_ext across.count (λ j l. each_ext down.count (λ i h. one i j h l)) d ∙ rw (u.used, v.used)
       where
         one : (i j : ℕ) → i < down.count → j < across.count → (xs : List ℕ)
             → put (λ old. get_or words (place_of (place_of from cols.offsets j) rows.offsets i) 0) (place_of (place_of to across.offsets j) down.offsets i) xs
@@ -128,28 +122,12 @@ module _ (p : Plan) (G : Cut) (x : Tile) where
 
       pub sums_added : (d : List ℕ) {after : List ℕ} → after ≡ each cols.count (λ j. each rows.count (stores j)) d
           → after ≡ tile_at G (visit S) x.batch x.column x.panel x.row d
-      unfolding plan_setting
-      sums_added d q = visited D r c e (visit S) stores store_added d q
+      unfolding tile_at plan_setting
+      sums_added d q =
+          q ∙ each_ext cols.count (λ j l. each_ext rows.count (λ i h. store_added i j h l)) d
+          ∙ rw (c.used, r.used)
 
   -- ---- the packed blocks are multiplied
-
-  -- where the words of a row and of a column stand
-  pub row_place_lem : (i d : ℕ) → G.rows * d + i ≡ work_place G left i d
-  row_place_lem i d = omega arith
-
-  pub column_place : (j d : ℕ) → G.rows * G.depth + j + G.cols * d ≡ work_place G right j d
-  column_place j d = omega arith
-
-  -- and what they are
-  module _ {work a b : List ℕ} (w : PackedIn p G x a b work) where
-    pub row_word : (i d : ℕ) → i < side_width G x left → d < panel_width G x
-        → get_or work (G.rows * d + i) 0 ≡ read_in p a b left x.batch (x.row * G.rows + i) (x.panel * G.depth + d)
-    row_word i d h m = ap (λ (y : ℕ). get_or work y 0) (row_place_lem i d) ∙ w.each left i d h m
-
-    pub column_word : (j d : ℕ) → j < side_width G x right → d < panel_width G x
-        → get_or work (G.rows * G.depth + j + G.cols * d) 0 ≡ read_in p a b right x.batch (x.column * G.cols + j) (x.panel * G.depth + d)
-    column_word j d h m = ap (λ (y : ℕ). get_or work y 0) (column_place j d) ∙ w.each right j d h m
-
   module _ {rows cols : Block} (r : SideBlock p G x D left rows) (c : SideBlock p G x D right cols) {from : ℕ} (e : from ≡ at_batch p x.batch D)
       {filled : ℕ} (f : filled ≡ panel_width G x) where
     pub multipliable : {d work : ℕ} → Fits G → Begins G x → OutputClear p G D d → packs G ≤ work
@@ -175,7 +153,10 @@ module _ (p : Plan) (G : Cut) (x : Tile) where
       unfolding tile_sum column_sum panel_sum plan_setting
       tile_sum_lem i j h l =
           ap (λ (m : ℕ). sum_to m (λ d. get_or work (G.rows * d + i) 0 * get_or work (G.rows * G.depth + j + G.cols * d) 0)) (f ∙ sym (panel_width_lem G x.panel))
-          ∙ sum_to_ext _ (λ d k. let m : d < panel_width G x = rw (panel_width_lem G x.panel) at k in rw (row_word w i d h m, column_word w j d l m))
+          ∙ sum_to_ext _ (λ d k. let m : d < panel_width G x = rw (panel_width_lem G x.panel) at k in
+          let front : G.rows * d + i ≡ 0 + (G.rows * d + i) = omega arith in
+          let behind : G.rows * G.depth + j + G.cols * d ≡ G.rows * G.depth + (G.cols * d + j) = omega arith in
+          rw (ap (λ (y : ℕ). get_or work y 0) front ∙ w.each left i d h m, ap (λ (y : ℕ). get_or work y 0) behind ∙ w.each right j d l m))
 
       pub multiplied : (d : List ℕ) {after : List ℕ}
           → after ≡ each cols.count (column_stored work (packing G filled) (record { alpha = alpha; beta = beta; first = first }) from cols.offsets rows.offsets rows.count) d

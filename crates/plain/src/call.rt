@@ -6,8 +6,11 @@ ghost use Rattle.plain.specs.PlainCall.{plain_call};
 use answers::plain_answer::Outcome;
 use contraction::contraction::{Contraction, Lengths};
 use direct::fill::fill;
-use output_walks::output_walks::walks_of;
+use folding::fold::folded;
+use groups::groups::groups_of;
+use plan::plan::base_of;
 use questions::questions::first_no;
+use sums::walk::walk_of;
 
 // Questions 1 to 9; where all pass, D's words become the contraction's. A refusal changes no word. C is read where it is named.
 pub fn contract(k: Contraction, a: &[u32], b: &[u32], c: &[u32], d: &mut [u32]) -> Outcome
@@ -25,9 +28,21 @@ pub fn contract(k: Contraction, a: &[u32], b: &[u32], c: &[u32], d: &mut [u32]) 
     if number != 0 {
         return Outcome::Refused(number);
     }
-    let w = walks_of(k, x.lists);
+    let lists = x.lists;
+    let sets = groups_of(lists);
+    let output = folded(lists, lists.d.letters.set);
+    let depth = folded(lists, sets.depth);
     fill(
-        a, b, c, d, k.named, k.alpha, k.beta, w.base, w.output, w.depth,
+        a,
+        b,
+        c,
+        d,
+        k.named,
+        k.alpha,
+        k.beta,
+        base_of(k),
+        walk_of(output),
+        walk_of(depth),
     );
     Outcome::Done
 }

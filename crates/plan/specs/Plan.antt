@@ -1,4 +1,4 @@
--- What tiles walk of a contraction: its groups, folded, and the tensors' bases. Inside contracts only.
+-- What the engines walk of a contraction: its groups, or D's labels and the depth group, folded, and the tensors' bases. Inside contracts only.
 -- Assumes nothing.
 use Rattle.std.specs.Prelude.{ℕ, ◌≤◌, ◌≡◌, Bool, length}
 use Rattle.limits.specs.Limits.{labels_limit}
@@ -6,7 +6,7 @@ use Rattle.layout.specs.declared.layout.Layout.{Layout}
 use Rattle.labels.specs.Labels.{labels}
 use Rattle.contraction.specs.Operands.{Operand, Shape, shape, together}
 use Rattle.groups.specs.declared.groups.Group.{Group as GroupCode}
-use Rattle.groups.specs.Groups.{Group, labels_where, group}
+use Rattle.groups.specs.Groups.{Group, depth, labels_where, group, outputs}
 use Rattle.groups.specs.Held.{labels_in}
 use Rattle.groups.specs.Sets.{groups_in}
 use Rattle.groups.specs.Foldable.{Foldable}
@@ -32,3 +32,11 @@ pub record Planned (t : Operand → Layout) (p : Plan) : Type 0 where
   pub groups : (g : Group) → labels_in (planned p g) ≡ fold (group (shape t) g)
   pub few : (g : Group) → (planned p g).count ≤ labels_limit
   pub bases : (o : Operand) → words_in p.base o ≡ (t o).base
+
+-- of what the plain engine walks: D's labels and the depth group
+pub record OutputPlanned (t : Operand → Layout) (outer inner : GroupCode) (base : Offsets) : Type 0 where
+  pub output : labels_in outer ≡ fold (outputs (shape t))
+  pub few_output : outer.count ≤ labels_limit
+  pub depth : labels_in inner ≡ fold (group (shape t) depth)
+  pub few_depth : inner.count ≤ labels_limit
+  pub bases : (o : Operand) → words_in base o ≡ (t o).base

@@ -4,10 +4,9 @@
 use Rattle.std.proofs.Common.{◌≡◌, ℕ, ◌+◌, ◌*◌, ◌^◌, ◌<◌, List, get_or, drop, replicate, sym, refl, ap, ◌∙◌, mul-le-mul_left, arith}
 use native.Mathlib.Nat.{eq_of_mul-eq-mul_left}
 use Rattle.words.specs.Words.{word, word_of}
-use Rattle.words.specs.Loops.{Within}
 use Rattle.words.specs.Stepped.{stepped}
 use Rattle.limits.specs.Limits.{labels_limit}
-use Rattle.contraction.specs.Operands.{Operand, A, B}
+use Rattle.contraction.specs.Operands.{Operand}
 use Rattle.groups.specs.Groups.{Label, size}
 use Rattle.offsets.specs.declared.offsets.Offsets.{Offsets}
 use Rattle.offsets.specs.Offsets.{words_in}
@@ -15,8 +14,7 @@ use Rattle.offsets.proofs.Runs.{offset_first, offset_run, offset_behind, size_be
 use Rattle.odometer.specs.Odometer.{Stands, Advanced, Rows}
 use Rattle.odometer.proofs.Carried.{carried_offset, stands_first}
 use Rattle.sums.specs.declared.walk.Walk.{Walk}
-use Rattle.dots.specs.Dot.{RunReadable}
-use Rattle.sums.specs.Walk.{reached, Readable, Walks}
+use Rattle.sums.specs.Walk.{reached, Walks}
 
 module _ (g : List Label) (w : Walk) (k : Walks g w) where
   -- a count of a run is one of the group's
@@ -42,14 +40,6 @@ module _ (g : List Label) (w : Walk) (k : Walks g w) where
 
     pub run_place : (o : Operand) (v : ℕ) → v < w.len → stepped (words_in at o) (words_in w.step o) v ≡ reached o (x o) g (w.len * m + v)
     run_place o v i = rw (begins o, k.step o, offset_run (λ l. word_of 64 (l.stride o)) g w.len m v refl k.len i) (omega arith)
-
-    -- what a run reads of A and B is inside
-    inside : (o : Operand) (n : ℕ) → Within (size g) (reached o (x o) g) n → Within w.len (stepped (words_in at o) (words_in w.step o)) n
-    inside o n i = record { each = λ v l. rw (run_place o v l) (i.each (w.len * m + v) (run_below m v h l)) }
-
-    pub run_readable : {a b : List ℕ} → Readable g a b x
-        → RunReadable w.len (stepped (words_in at A) (words_in w.step A)) (stepped (words_in at B) (words_in w.step B)) a b
-    run_readable r = record { in_a = inside A _ r.in_a; in_b = inside B _ r.in_b }
 
   -- the first run, and from a run to the next
   module _ {count : ℕ} {table : List ℕ} (r : Rows g count table) where

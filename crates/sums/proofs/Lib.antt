@@ -1,2 +1,1 @@
 pub mod GroupRuns
-pub mod RunTotals

@@ -3,7 +3,7 @@
 use mathlib.Core.Path.{◌≡◌, refl, ap}
 use mathlib.Core.List.{List, [], ◌∷◌}
 use Prim.Native.Nat.{ℕ, ◌*◌, ◌<◌}
-use lib.ListN.{get_or}
+use lib.ListN.{length, get_or}
 use Rattle.words.specs.Sums.{All}
 use Rattle.words.proofs.Tabulate.{tabulate_ext}
 use Rattle.contraction.specs.declared.contraction.Contraction.{Contraction}
@@ -46,7 +46,7 @@ module _ (G : Cut) {entry entry' : Side → ℕ → ℕ → ℕ → ℕ}
 
 module _ (c : Contraction) (z : Sizes) (w : Slices) (ok : AllPassed (tensors c) (lengths_in c w)) (p : Plan) (q : Planned (tensors c) p) where
   -- what is read are the entries
-  pub read_is : (s : Side) (h m k : ℕ) → h < (cut_of c z).H → m < size_on (cut_of c z) s → k < (cut_of c z).K → read_in p (w A) (w B) s h m k ≡ entry_on c w s h m k
+  read_is : (s : Side) (h m k : ℕ) → h < (cut_of c z).H → m < size_on (cut_of c z) s → k < (cut_of c z).K → read_in p (w A) (w B) s h m k ≡ entry_on c w s h m k
   unfolding entry_on entry
   read_is left h m k bh bm bk = ap (λ (x : ℕ). get_or (w A) x 0) (side_entry c (lengths_in c w) ok p q left h m k bh bm bk).is
   read_is right h m k bh bm bk = ap (λ (x : ℕ). get_or (w B) x 0) (side_entry c (lengths_in c w) ok p q right h m k bh bm bk).is

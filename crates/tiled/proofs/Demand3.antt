@@ -31,7 +31,7 @@ use Rattle.tiled.proofs.TileAnswered.{tile_answers, state_answers}
 -- ---- the count of tiles done
 
 module _ (c : Contraction) (z : Sizes) where
-  pub next_le : (x : Call) {t : ℕ} → t ≤ total (cut_of c z) → (t ≤ next c z x t) × (next c z x t ≤ total (cut_of c z))
+  next_le : (x : Call) {t : ℕ} → t ≤ total (cut_of c z) → (t ≤ next c z x t) × (next c z x t ≤ total (cut_of c z))
   unfolding next
   next_le (tiles budget work) {t} b = go (work_fits z (length work))
     where

@@ -53,11 +53,10 @@ unfolding count
 count_append c z [] more t = refl
 count_append c z (x ∷ calls) more t = count_append c z calls more (next c z x t)
 
--- more calls only raise the count
-pub count_grows : (c : Contraction) (z : Sizes) (calls more : List Call) → count c z calls 0 ≤ count c z (calls ++ more) 0
-count_grows c z calls more = rw (count_append c z calls more 0) (count_le c z more (count_le c z calls zero-le).1).0
-
 module _ (c : Contraction) (z : Sizes) (a b cw d : List ℕ) (ok : Accepted c z (four a b cw d)) where
+  count_grows : (calls more : List Call) → count c z calls 0 ≤ count c z (calls ++ more) 0
+  count_grows calls more = rw (count_append c z calls more 0) (count_le c z more (count_le c z calls zero-le).1).0
+
   same_words : (calls others : List Call) → count c z calls 0 ≡ count c z others 0 → (run c z a b cw calls 0 d).words ≡ (run c z a b cw others 0 d).words
   same_words calls others e =
       words_closed c z a b cw d ok.passed calls ∙ ap (λ (n : ℕ). closed (setting c z (four a b cw d)) n d) e ∙ sym (words_closed c z a b cw d ok.passed others)
@@ -90,7 +89,7 @@ module _ (c : Contraction) (z : Sizes) (a b cw d : List ℕ) (ok : Accepted c z 
         any_cutting = same_words;
         one_call = λ calls work e. same_words calls (tiles (count c z calls 0) work ∷ []) (one_count (count c z calls 0) work (demand3 c z a b cw d ok calls).within e);
         final_stays = λ calls more h i j k e. (demand3 c z a b cw d ok (calls ++ more)).addressed h i j k
-            ∙ final_word (setting c z (four a b cw d)) h i j e (count_grows c z calls more) (get_or d (address_at c h i j) 0)
+            ∙ final_word (setting c z (four a b cw d)) h i j e (count_grows calls more) (get_or d (address_at c h i j) 0)
             ∙ sym ((demand3 c z a b cw d ok calls).addressed h i j k);
       }
 

@@ -1,5 +1,4 @@
 pub mod Agrees
-pub mod TilesAsked
 pub mod TileAnswered
 pub mod Demand3
 pub mod Following

@@ -13,7 +13,7 @@ use tiles::grid::Sizes;
 use tiling::run_tiles::run_tiles;
 
 // The smaller of two counts.
-pub fn smaller(a: u64, b: u64) -> u64
+fn smaller(a: u64, b: u64) -> u64
     ensures { result ≡ min a b }
 {
     if a < b { a } else { b }

@@ -13,13 +13,12 @@ use Rattle.words.specs.Lists.{tabulate}
 use Rattle.words.specs.Words.{word}
 use Rattle.words.proofs.Sums.{sum_to_ext, sum_to_zero}
 use Rattle.words.proofs.Tabulate.{tabulate_suc}
-use Rattle.words.proofs.Totals.{sum_to_laws}
 use Rattle.words.proofs.Modular.{word_add_left}
 use Rattle.tiles.specs.Cut.{blocks, KB}
 use Rattle.tiles.specs.Progress.{final, done, state_at}
 use Rattle.tiles.specs.TileWalk.{after}
 use Rattle.tiles.specs.Setting.{Setting, panel_sum, done_sum, word_at, add_panel}
-use Rattle.tiles.proofs.Cuts.{blocks_cover}
+use Rattle.tiles.proofs.Cuts.{blocks_cover, sum_to_below, sum_to_panels}
 use Rattle.tiles.proofs.Numbering.{KB_pos}
 use Rattle.tiles.proofs.Progress.{Reached}
 use Rattle.tiles.proofs.States.{final_reached, final_stays}
@@ -28,11 +27,6 @@ after_append : {X : Type 0} (f : ℕ → X → X) (ps qs : List ℕ) (x : X) →
 unfolding after
 after_append f [] qs x = refl
 after_append f (p ∷ ps) qs x = after_append f ps qs (f p x)
-
--- the first q panels and one more
-pub after_next : {X : Type 0} (f : ℕ → X → X) (q : ℕ) (x : X) → after f (tabulate (suc q) (λ k. k)) x ≡ f q (after f (tabulate q (λ k. k)) x)
-unfolding after
-after_next f q x = ap (λ (ps : List ℕ). after f ps x) (tabulate_suc q (λ k. k)) ∙ after_append f (tabulate q (λ k. k)) (q ∷ []) x
 
 module _ (S : Setting) (h i j : ℕ) where
   open S use {cut, term, alpha, start}
@@ -44,7 +38,7 @@ module _ (S : Setting) (h i j : ℕ) where
 
   pub reached_sum : {t q : ℕ} → Reached cut h i j t q → done_sum S t h i j ≡ sum_to q (panel_sum S h i j)
   unfolding done_sum
-  reached_sum r = sum_to_ext (KB cut) (λ p b. ap (λ (c : Bool). cond c (panel_sum S h i j p) 0) (r.which p b)) ∙ sum_to_laws.below (panel_sum S h i j) r.up_to
+  reached_sum r = sum_to_ext (KB cut) (λ p b. ap (λ (c : Bool). cond c (panel_sum S h i j p) 0) (r.which p b)) ∙ sum_to_below (panel_sum S h i j) r.up_to
 
   pub reached_word : {t : ℕ} (q : ℕ) → Reached cut h i j t q → (w : ℕ) → word_at S t h i j w ≡ word_by q w
   unfolding word_at word_by
@@ -67,7 +61,8 @@ module _ (S : Setting) (h i j : ℕ) where
   unfolding after word_by
   first_words zero w = refl
   first_words (suc q) w =
-      after_next (λ p. add_panel S p h i j) q w
+      ap (λ (ps : List ℕ). after (λ p. add_panel S p h i j) ps w) (tabulate_suc q (λ k. k))
+      ∙ after_append (λ p. add_panel S p h i j) (tabulate q (λ k. k)) (q ∷ []) w
       ∙ ap (add_panel S q h i j) (first_words q w)
       ∙ word_add q w
 
@@ -84,7 +79,7 @@ module _ (S : Setting) (h i j : ℕ) where
   sum_all : 0 < cut.depth → sum_to (KB cut) (panel_sum S h i j) ≡ sum_to cut.K (term h i j)
   unfolding panel_sum KB
   sum_all pos =
-      sum_to_laws.panels (KB cut) cut.depth cut.K (term h i j)
+      sum_to_panels (KB cut) cut.depth cut.K (term h i j)
       ∙ ap (λ (n : ℕ). sum_to n (term h i j))
       (min-eq_right (le_trans (blocks_cover cut.K pos) (mul-le-mul_right cut.depth (le-max_right 1 (blocks cut.K cut.depth)))))
 

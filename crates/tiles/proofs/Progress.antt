@@ -12,10 +12,9 @@ use native.Mathlib.Omega.{arith}
 use lib.Dec.{ltb, eqb}
 use borrow.Author.Tests.{ltb-true, lt-ltb, le-ltb, eq-eqb, ne_eqb}
 use Rattle.words.proofs.Sums.{sum_to_ext}
-use Rattle.words.proofs.Totals.{sum_to_laws}
 use Rattle.tiles.specs.Cut.{Cut, MB, NB, KB, total, tile_number}
 use Rattle.tiles.specs.Progress.{State, old, part, final, done, done_count, state_at}
-use Rattle.tiles.proofs.Cuts.{sum_to_ones}
+use Rattle.tiles.proofs.Cuts.{sum_to_below, sum_to_ones}
 use Rattle.tiles.proofs.Numbering.{KB_pos, number_lt, number_mono, number_strict}
 
 -- a test on counts that only goes from true to false is true at the first q
@@ -68,7 +67,7 @@ module _ (G : Cut) (h i j : ℕ) where
 
   pub reached_count : {t q : ℕ} → Reached t q → done_count G t h i j ≡ q
   unfolding done_count
-  reached_count {t} {q} r = sum_to_ext (KB G) (λ p b. ap (λ (c : Bool). cond c 1 0) (r.which p b)) ∙ sum_to_laws.below (λ p. 1) r.up_to ∙ sum_to_ones q
+  reached_count {t} {q} r = sum_to_ext (KB G) (λ p b. ap (λ (c : Bool). cond c 1 0) (r.which p b)) ∙ sum_to_below (λ p. 1) r.up_to ∙ sum_to_ones q
 
   pub reached_state : {t q : ℕ} → Reached t q → state_at G t h i j ≡ state_by G q
   unfolding state_at state_by

@@ -1,3 +1,2 @@
 pub mod PackedWork
-pub mod TilesRun
 pub mod WorkCases

@@ -1,8 +1,8 @@
 -- A list whose first words were stored one after the other: a store behind the front makes it one word longer, and so do words stored in a row.
 -- Rows of words that are apart may be stored in either order.
 -- Assumes nothing.
-use Rattle.std.proofs.Common.{◌≡◌, ℕ, zero, suc, ◌+◌, ◌-◌, ◌<◌, ◌≤◌, List, ◌∷◌, ◌++◌, length, get_or, take, drop, set, replicate, sym, refl, ap, ◌∙◌, append-nil, add-zero, add_assoc, add-one, arith, length-append, length-drop, length-set, length-take-le, drop-cons, take_at, drop_at}
-use lib.ListN.{get_or-append, length-replicate}
+use Rattle.std.proofs.Common.{◌≡◌, ℕ, zero, suc, ◌+◌, ◌<◌, ◌≤◌, List, ◌∷◌, ◌++◌, length, get_or, drop, set, sym, refl, ap, ◌∙◌, append-nil, add-zero, add_assoc, add-one, arith, length-append, length-drop, drop-cons, drop_at}
+use lib.ListN.{get_or-append}
 use lib.Seq.{append_snoc, drop-length, set_at, set_comm}
 use Rattle.words.specs.Lists.{tabulate}
 use Rattle.words.specs.Loops.{each, put}
@@ -92,48 +92,3 @@ stored_one v to xs e = rw (add-zero to, e)
 pub stored_two : (v : ℕ → ℕ) (to : ℕ) (xs : List ℕ) {w u : ℕ} → w ≡ v 0 → u ≡ v 1 → set (set xs to w) (to + 1) u ≡ stored 2 v to xs
 unfolding stored each put
 stored_two v to xs e f = rw (add-zero to, e, f)
-
--- ---- a slice that a loop fills in order: its front is what was put there, and in the end all of it
-
-module _ {X : Type 0} where
-  -- `new` is `old` with f 0, .., f (i - 1) in its first i places
-  pub record Filled (f : ℕ → X) (old new : List X) (i : ℕ) : Type 0 where
-    pub below : i ≤ length old
-    pub long : length new ≡ length old
-    pub is : new ≡ front i f old
-
-  module _ (f : ℕ → X) (old : List X) where
-    pub filled_none : Filled f old old 0
-    filled_none = record { below = omega arith; long = refl; is = sym (front_none f old) }
-
-    pub filled_more : {new : List X} {i : ℕ} {v : X} → Filled f old new i → i < length new → v ≡ f i → Filled f old (set new i v) (i + 1)
-    filled_more {new} {i} {v} c h e =
-        let k : i < length old = omega arith in
-        record { below = omega arith; long = length-set new i v ∙ c.long; is = ap (λ (l : List X). set l i v) c.is ∙ front_set f old i v k e }
-
-    pub filled_all : {new : List X} {i : ℕ} → Filled f old new i → length new ≤ i → new ≡ tabulate (length old) f
-    filled_all {new} {i} c h = let z : i ≡ length old = omega arith in c.is ∙ ap (λ (k : ℕ). front k f old) z ∙ front_all f old
-
--- ---- the front of an array of equal values, lent to be filled: what it holds when it came back
-
--- the first n of as many equal values
-pub lent_length : {X : Type 0} {n size : ℕ} (v : X) → n ≤ size → length (take n (replicate size v)) ≡ n
-lent_length {n = n} {size = size} v few = length-take-le n (replicate size v) (rw (length-replicate size v) few)
-
--- they were lent, and came back filled
-pub record CameBack {X : Type 0} (n size : ℕ) (v : X) (filled : List X) : Type 0 where
-  pub lent : length (take n (replicate size v)) ≡ n
-  pub front : take n (filled ++ drop n (replicate size v)) ≡ filled
-  pub room : n ≤ length (filled ++ drop n (replicate size v))
-  pub long : n ≡ length (take n (filled ++ drop n (replicate size v)))
-
-pub came_back : {X : Type 0} {n size : ℕ} {v : X} {filled : List X} → n ≤ size → length filled ≡ length (take n (replicate size v)) → CameBack n size v filled
-came_back {n = n} {size = size} {v = v} {filled = filled} few kept =
-    let lent = lent_length v few in
-    let room : n ≤ length (filled ++ drop n (replicate size v)) = omega (arith, length-append filled (drop n (replicate size v))) in
-    record {
-      lent = lent;
-      front = take_at filled (drop n (replicate size v)) n (kept ∙ lent);
-      room = room;
-      long = sym (length-take-le n (filled ++ drop n (replicate size v)) room);
-    }

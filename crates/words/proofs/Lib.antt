@@ -1,4 +1,4 @@
-pub mod Congruent
+pub mod Filled
 pub mod Fronts
 pub mod Lanes
 pub mod Lists
@@ -8,5 +8,5 @@ pub mod Store
 pub mod Strides
 pub mod Sums
 pub mod Tabulate
-pub mod Totals
 pub mod Whole
+pub mod Lent

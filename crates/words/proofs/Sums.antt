@@ -27,10 +27,27 @@ unfolding sum_to
 sum_to_add n zero f = simp add-zero
 sum_to_add n (suc m) f = simp (add-suc, sum_to_add n m f, add_assoc)
 
+-- a sum over e × s counts, the first of the two counts running fastest
+pub sum_to_mul : (e s : ℕ) (f : ℕ → ℕ) → sum_to (e * s) f ≡ sum_to s (λ m. sum_to e (λ v. f (e * m + v)))
+unfolding sum_to
+sum_to_mul e zero f = simp mul-zero
+sum_to_mul e (suc s) f = simp (mul-suc, sum_to_add, sum_to_mul e s f)
+
 pub sum_to_zero : (n : ℕ) → sum_to n (λ i. 0) ≡ 0
 unfolding sum_to
 sum_to_zero zero = refl
 sum_to_zero (suc n) = omega (arith, sum_to_zero n)
+
+sum_to_plus : (n : ℕ) (f g : ℕ → ℕ) → sum_to n (λ i. f i + g i) ≡ sum_to n f + sum_to n g
+unfolding sum_to
+sum_to_plus zero f g = refl
+sum_to_plus (suc n) f g = omega (arith, sum_to_plus n f g)
+
+-- two sums may change places
+pub sum_to_swap : (n m : ℕ) (f : ℕ → ℕ → ℕ) → sum_to n (λ i. sum_to m (λ j. f i j)) ≡ sum_to m (λ j. sum_to n (λ i. f i j))
+unfolding sum_to
+sum_to_swap zero m f = sym (sum_to_zero m)
+sum_to_swap (suc n) m f = rw (sum_to_swap n m f) (sym (sum_to_plus m (λ j. sum_to n (λ i. f i j)) (f n)))
 
 pub and_split : (a b : Bool) → T (a && b) → T a × T b
 and_split true b t = (tt, t)

@@ -23,14 +23,3 @@ word_of w (negsuc n) = 2 ^ w - suc n
 -- a word of w bits read as signed
 abbrev pub signed : ℕ → ℕ → ℤ
 signed w x = cond (nat_lt x (2 ^ (w - 1))) (pos x) (negsuc ((2 ^ w - 1) - x))
-
--- ---- whole numbers modulo 2 ^ w, read as signed: 64-bit sums are added in this way
-
--- the lowest w bits of a whole number, two's complement
-unfoldable pub low_bits : ℕ → ℤ → ℕ
-low_bits w (pos n) = word w n
-low_bits w (negsuc n) = 2 ^ w - 1 - word w n
-
--- the signed number of w bits that they are
-unfoldable pub wrapped : ℕ → ℤ → ℤ
-wrapped w z = signed w (low_bits w z)

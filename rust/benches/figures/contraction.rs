@@ -6,8 +6,6 @@ use std::hint::black_box;
 
 /// The tile that every case is run with: rows, columns, depth.
 pub const TILE: TileSizes = TileSizes { rows: 64, cols: 64, depth: 128 };
-/// The shift of every call in fixed point.
-pub const SHIFT: u32 = 15;
 
 pub struct Tensor {
     pub letters: &'static str,
@@ -55,13 +53,6 @@ impl Contraction {
         black_box(Self { a: tensor(a, 1), b: tensor(b, 2), d: tensor(d, 3), alpha, beta })
     }
 
-    /// The same as the calls in fixed point take it: each word of A and B from -32,768 to 32,767, and both factors 1.
-    pub fn in_16_bits(mut self) -> Self {
-        let narrow = |word: &mut u32| *word = i32::from(*word as i16) as u32;
-        self.a.words.iter_mut().chain(&mut self.b.words).for_each(narrow);
-        Self { alpha: 1, beta: 1, ..self }
-    }
-
     /// The product of the extents of all labels.
     pub fn terms(&self) -> u64 {
         let axes = |tensor: &Tensor| tensor.letters.chars().zip(tensor.extents.clone()).collect::<Vec<_>>();
@@ -90,17 +81,6 @@ impl Contraction {
         let progress = self.lent().run_tiles(d, sizes, work, 0, u64::MAX).expect("an accepted contraction");
         assert!(progress.complete, "tiles are left");
         progress.done
-    }
-
-    /// The plain engine in fixed point.
-    pub fn contract_fixed(&self, d: &mut [u32]) {
-        self.lent().contract_fixed(d, SHIFT).expect("an accepted contraction");
-    }
-
-    /// The tiled engine in fixed point, all tiles in one call.
-    pub fn run_all_tiles_fixed(&self, d: &mut [u32], sizes: TileSizes, work: &mut [u32], sums: &mut [i64]) {
-        let answer = self.lent().run_tiles_fixed(d, SHIFT, sizes, work, sums, 0, u64::MAX);
-        assert!(answer.expect("an accepted contraction").complete, "tiles are left");
     }
 }
 

@@ -1,7 +1,6 @@
 //! How long the engine takes, beside other ways to contract the same words in the same run. Prints tables, puts them
 //! into docs/PERFORMANCE.md and draws the plots beside it. Ends with status 1 where a required ratio is missed, and
-//! panics where two contenders leave different words. With the argument `fixed` it measures the calls in fixed point
-//! alone, prints their tables and writes nothing.
+//! panics where two contenders leave different words.
 
 mod blocks;
 mod clock;
@@ -19,21 +18,16 @@ mod shown;
 use measured::contest::{Case, Times};
 use measured::required::Required;
 use measured::{
-    before, calls, cases, delays, fixed, forms, labels, one_tile, required, scaling, small_words, stretches,
-    tile_sizes, walks,
+    before, calls, cases, delays, forms, labels, one_tile, required, scaling, stretches, tile_sizes, walks,
 };
 use shown::{archives, bars, costs, document, lines, machine, scores, tables};
-use std::env;
 use std::process::ExitCode;
 
 fn main() -> ExitCode {
-    if env::args().any(|argument| argument == "fixed") {
-        return fixed_point_alone();
-    }
     let (cases, one_tile, scaling) = (measure(cases::all()), one_tile::all(), measure(scaling::all()));
     let (calls, delays, forms) = (calls::all(), delays::all(), forms::measure());
-    let (stretches, before, fixed) = (stretches::all(), before::all(&cases), fixed::all());
-    let required = required::all(&cases, &one_tile, &delays, &fixed);
+    let (stretches, before) = (stretches::all(), before::all(&cases));
+    let required = required::all(&cases, &one_tile, &delays);
     let sections = [
         ("Required ratios", tables::required(&required)),
         ("Cases", tables::cases(&cases) + "\n" + &tables::layouts(&cases) + &archives::cases(&before)),
@@ -44,7 +38,6 @@ fn main() -> ExitCode {
         ("Calls", tables::calls(&calls)),
         ("What a call and a tile cost", costs::costs(&labels::all(), &tile_sizes::all())),
         ("Delay", tables::delays(&delays)),
-        ("Fixed point", shown::fixed::fixed(&fixed, &small_words::all())),
         ("Forms of the odometer", tables::forms(&forms)),
         ("Machine", machine::machine()),
     ];
@@ -54,13 +47,6 @@ fn main() -> ExitCode {
     document::write_plot("speed.svg", &bars::plot(&cases));
     document::write_plot("scaling.svg", &lines::plot(&scaling));
     document::write_plot("delay.svg", &scores::plot(&example::X, &example::Y, example::GREATEST_LAG));
-    status(&required)
-}
-
-fn fixed_point_alone() -> ExitCode {
-    let fixed = fixed::all();
-    let required = required::in_fixed_point(&fixed);
-    println!("{}\n{}", tables::required(&required), shown::fixed::fixed(&fixed, &small_words::all()));
     status(&required)
 }
 

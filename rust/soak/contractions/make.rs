@@ -22,30 +22,20 @@ const KINDS: [Kind; 5] = [
 
 /// A damage that leaves a contraction with too many terms is taken back.
 pub fn contraction(rng: &mut Rng) -> Case {
-    let kind = kind(rng);
+    let kind = rng.pick(&[0, 0, 0, 1, 1, 1, 2, 2, 2, 3, 3, 3, 4]);
     let make = if rng.once_in(3) { accepted_with_c } else { accepted };
-    let sound = make(rng, kind);
+    let sound = make(rng, &KINDS[kind]);
     let mut damaged = sound.clone();
     (0..rng.pick(&[0, 0, 0, 0, 1, 2])).for_each(|_| damage(rng, &mut damaged));
-    if is_long(&damaged) {
+    if terms(&damaged) > u128::from(TERMS) && first_no(&damaged) == 0 {
         sound
     } else {
         damaged
     }
 }
 
-/// The last kind is rarer.
-pub fn kind(rng: &mut Rng) -> &'static Kind {
-    &KINDS[rng.pick(&[0, 0, 0, 1, 1, 1, 2, 2, 2, 3, 3, 3, 4])]
-}
-
-/// Whether it is accepted, and has too many terms.
-pub fn is_long(case: &Case) -> bool {
-    terms(case) > u128::from(TERMS) && first_no(case) == 0
-}
-
 /// An edit that is meant for one question, or any value at any place.
-pub fn damage(rng: &mut Rng, case: &mut Case) {
+fn damage(rng: &mut Rng, case: &mut Case) {
     let which = rng.below(if case.c.is_some() { 4 } else { 3 });
     match rng.below(20) {
         0 => fill_product(rng, case, which),

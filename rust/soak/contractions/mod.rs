@@ -1,9 +1,9 @@
 //! One contraction of the run: the plain call, then lists of tile calls and state questions.
 
-pub mod calls;
-pub mod choose;
+mod calls;
+mod choose;
 mod list;
-pub mod make;
+mod make;
 mod notes;
 
 use crate::common::case::{same_words, Case, Outcome};

@@ -5,7 +5,6 @@ mod tables;
 
 use crate::common::case::Outcome;
 use crate::common::delay::Answer;
-use crate::common::fixed_request::{FixedRan, FixedRequest};
 use crate::common::groups::Cut;
 use crate::common::request::{work_needed, Ran, Request};
 use crate::common::seen::Seen;
@@ -17,14 +16,12 @@ pub use tables::text;
 pub struct Answers(BTreeMap<u32, usize>);
 
 /// The numbers that the calls can answer, in the order of the questions; 0 where a call is accepted.
-pub const ALL: [u32; 20] = [0, 1, 2, 3, 4, 5, 6, 30, 7, 8, 9, 10, 11, 12, 13, 31, 32, 33, 34, 35];
+pub const ALL: [u32; 17] = [0, 1, 2, 3, 4, 5, 6, 30, 7, 8, 9, 10, 11, 12, 13, 31, 32];
 /// Those that each call can answer.
 pub const PLAIN: [u32; 11] = [0, 1, 2, 3, 4, 5, 6, 30, 7, 8, 9];
 pub const TILE: [u32; 14] = [0, 1, 2, 3, 4, 5, 6, 30, 7, 8, 9, 10, 11, 12];
 pub const STATE: [u32; 14] = [0, 1, 2, 3, 4, 5, 6, 30, 7, 8, 9, 10, 12, 13];
 pub const DELAY: [u32; 3] = [0, 31, 32];
-pub const FIXED_PLAIN: [u32; 12] = [0, 1, 2, 3, 4, 5, 6, 7, 8, 9, 34, 35];
-pub const FIXED_TILE: [u32; 16] = [0, 1, 2, 3, 4, 5, 6, 7, 8, 9, 10, 11, 12, 33, 34, 35];
 /// The numbers by which the program can refuse a file.
 pub const FILE: [u32; 15] = [1, 3, 4, 5, 6, 30, 7, 8, 9, 10, 12, 20, 21, 22, 23];
 
@@ -53,16 +50,12 @@ pub struct Figures {
     pub tile: Answers,
     pub state: Answers,
     pub delay: Answers,
-    pub fixed_plain: Answers,
-    pub fixed_tile: Answers,
     /// What the lists of calls had.
     pub calls: Seen,
     /// What the accepted contractions had.
     pub features: Seen,
     /// How the tiles of the lists cut them.
     pub cuts: Seen,
-    /// What the calls in fixed point had.
-    pub fixed: Seen,
     /// What the recordings had.
     pub recordings: Seen,
     /// How job files were damaged.
@@ -83,33 +76,6 @@ impl Figures {
 
     pub fn note_delay(&mut self, found: Answer) {
         self.delay.add(found.err().unwrap_or(0), 1);
-    }
-
-    pub fn note_fixed_plain(&mut self, found: &Outcome) {
-        self.fixed_plain.add(found.answer, 1);
-        self.fixed.add("words of D compared", found.words.len());
-    }
-
-    pub fn note_fixed_run(&mut self, r: &FixedRequest, found: &FixedRan, total: u64) {
-        let (seen, words) = (&mut self.fixed, &r.request.case.d.words);
-        self.fixed_tile.add(found.ran.answer, 1);
-        seen.add("words of D compared", words.len());
-        seen.add("sums compared", found.sums.len());
-        if found.ran.answer != 0 {
-            return;
-        }
-        let (left, run) = (total - r.request.done, found.ran.done - r.request.done);
-        seen.add("tiles run", run as usize);
-        seen.note("tile calls with budget 0", r.request.budget == 0);
-        seen.note("tile calls after the last tile", left == 0 && total > 0);
-        seen.note("tile calls where there are no tiles", total == 0);
-        seen.note("tile calls that changed sums and no word", found.sums != r.sums && found.ran.words == *words);
-        seen.note("tile calls with more sums than words", r.sums.len() > words.len());
-        let changed_to =
-            |end: i32| words.iter().zip(&found.ran.words).filter(|(b, a)| b != a && **a == end as u32).count();
-        seen.add("words held at, or come to, 2^31 - 1", changed_to(i32::MAX));
-        seen.add("words held at, or come to, -2^31", changed_to(i32::MIN));
-        (0..=15).for_each(|shift| seen.note(&format!("tile calls with shift {shift:2}"), r.shift == shift));
     }
 
     /// The answer to a state question. A contraction that is refused is not cut.
@@ -154,12 +120,9 @@ impl Figures {
         self.tile.add_all(&other.tile);
         self.state.add_all(&other.state);
         self.delay.add_all(&other.delay);
-        self.fixed_plain.add_all(&other.fixed_plain);
-        self.fixed_tile.add_all(&other.fixed_tile);
         add_seen(&mut self.calls, &other.calls);
         add_seen(&mut self.features, &other.features);
         add_seen(&mut self.cuts, &other.cuts);
-        add_seen(&mut self.fixed, &other.fixed);
         add_seen(&mut self.recordings, &other.recordings);
         add_seen(&mut self.damages, &other.damages);
         add_seen(&mut self.texts, &other.texts);
@@ -172,15 +135,13 @@ impl Figures {
         let by_number = |call: &str, answers: &Answers, numbers: &[u32]| -> Vec<String> {
             answers.missing(numbers).map(|number| format!("{call} answered by {number}")).collect()
         };
-        let seen = [&self.calls, &self.features, &self.cuts, &self.fixed, &self.recordings, &self.damages, &self.texts];
+        let seen = [&self.calls, &self.features, &self.cuts, &self.recordings, &self.damages, &self.texts];
         let by_name = seen.into_iter().flat_map(Seen::counts).filter(|(_, count)| *count == 0);
         let answers = [
             by_number("plain calls", &self.plain, &PLAIN),
             by_number("tile calls", &self.tile, &TILE),
             by_number("state questions", &self.state, &STATE),
             by_number("delay calls", &self.delay, &DELAY),
-            by_number("plain calls in fixed point", &self.fixed_plain, &FIXED_PLAIN),
-            by_number("tile calls in fixed point", &self.fixed_tile, &FIXED_TILE),
         ];
         answers.into_iter().flatten().chain(by_name.map(|(name, _)| name.to_string())).collect()
     }

@@ -1,6 +1,6 @@
 //! The figures of a run as a text with tables.
 
-use super::{Answers, Figures, ALL, DELAY, FILE, FIXED_PLAIN, FIXED_TILE, PLAIN, STATE, TILE};
+use super::{Answers, Figures, ALL, DELAY, FILE, PLAIN, STATE, TILE};
 use crate::common::seen::Seen;
 use crate::jobs::{Files, ACCEPTED, MARKED, WITH_C};
 use crate::settings::Settings;
@@ -14,19 +14,17 @@ const NONE: &str = "–";
 const TENSORS: [&str; 4] = ["A", "B", "C", "D"];
 
 pub fn text(settings: &Settings, files: &Files, figures: &Figures, time: Duration) -> String {
-    let [count, fixed, pairs] =
-        [settings.count, settings.fixed(), settings.recordings()].map(|count| grouped(count as usize));
+    let [count, pairs] = [settings.count, settings.recordings()].map(|count| grouped(count as usize));
     let (mutants, seed, seconds) = (grouped(files.mutants.len()), settings.seed, time.as_secs());
     let head = format!(
-        "Seed {seed}: {count} contractions, {fixed} in fixed point, {pairs} pairs of recordings and {mutants} job files in \
-         {seconds} s, on {THREADS} threads. Nothing differed."
+        "Seed {seed}: {count} contractions, {pairs} pairs of recordings and {mutants} job files in {seconds} s, on {THREADS} \
+         threads. Nothing differed."
     );
     let calls = table_of(["in the lists of calls", "count"], figures.calls.counts());
     let parts = [
         vec![head, answers(figures), calls],
         tables_of("accepted contractions with", &figures.features),
         tables_of("lists on accepted contractions with", &figures.cuts),
-        vec![table_of(["in fixed point", "count"], figures.fixed.counts())],
         vec![table_of(["pairs of recordings", "count"], figures.recordings.counts())],
         vec![damages(files, figures), texts(figures)],
     ];
@@ -59,23 +57,15 @@ fn table_of<'a>(head: [&str; 2], counts: impl Iterator<Item = (&'a str, usize)>)
 }
 
 fn answers(figures: &Figures) -> String {
-    let of_fixed = ["plain calls in fixed point", "tile calls in fixed point"];
-    let head = ["answer", "plain calls", "tile calls", "state questions", "delay calls"].into_iter().chain(of_fixed);
-    let head = head.map(str::to_string).collect::<Vec<_>>();
+    let head = ["answer", "plain calls", "tile calls", "state questions", "delay calls"].map(str::to_string).to_vec();
     let cell = |answers: &Answers, numbers: &[u32], number: u32| match numbers.contains(&number) {
         true => grouped(answers.count(number)),
         false => NONE.to_string(),
     };
     let row = |number: u32| {
         let name = if number == 0 { "accepted".to_string() } else { format!("refused by {number}") };
-        let calls = [
-            (&figures.plain, &PLAIN[..]),
-            (&figures.tile, &TILE),
-            (&figures.state, &STATE),
-            (&figures.delay, &DELAY),
-            (&figures.fixed_plain, &FIXED_PLAIN),
-            (&figures.fixed_tile, &FIXED_TILE),
-        ];
+        let calls =
+            [(&figures.plain, &PLAIN[..]), (&figures.tile, &TILE), (&figures.state, &STATE), (&figures.delay, &DELAY)];
         [name].into_iter().chain(calls.map(|(answers, numbers)| cell(answers, numbers, number))).collect()
     };
     table(&[head].into_iter().chain(ALL.map(row)).collect::<Vec<_>>())

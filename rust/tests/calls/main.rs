@@ -1,4 +1,4 @@
-//! The calls of the archive: plain calls, tile calls, state questions, fixed point and delays, by their safe forms and by their pointers.
+//! The calls of the archive: plain calls, tile calls, state questions and delays, by their safe forms and by their pointers.
 
 #[path = "../common/mod.rs"]
 mod common;
@@ -10,15 +10,6 @@ mod delay_refusals;
 mod edges;
 mod empty_layers;
 mod empty_tiles;
-mod fixed;
-mod fixed_driver;
-mod fixed_empty;
-mod fixed_limits;
-mod fixed_lists;
-mod fixed_random;
-mod fixed_refusals;
-mod fixed_shapes;
-mod fixed_sums;
 mod larger;
 mod layout_words;
 mod limits;

@@ -41,7 +41,7 @@ fn contracted(case: &Case) -> Vec<u32> {
 }
 
 /// Visits all values of these labels, the others staying as they are. There are none where an extent is 0.
-pub fn for_all_values(extents: &BTreeMap<u8, u32>, mut values: Values, mut visit: impl FnMut(&Values)) {
+fn for_all_values(extents: &BTreeMap<u8, u32>, mut values: Values, mut visit: impl FnMut(&Values)) {
     if extents.values().any(|extent| *extent == 0) {
         return;
     }

@@ -3,7 +3,6 @@
 //! `questions` and `direct` are the model of the plain call; `groups` and `panels` add that of the tile calls. They
 //! follow the rules word by word, by the slowest and plainest means, and share neither code nor shape with the engine:
 //! the sum knows no groups, and where tiles need counts of groups nothing is folded, packed or run tile by tile.
-//! `fixed`, `fixed_questions` and `fixed_panels` are the model of the calls in fixed point.
 //! `job_model` adds the reading of a job file and the text that answers it; `delay` has the model of the delay call.
 
 #![allow(dead_code)] // Each program of tests uses a part of this.
@@ -20,15 +19,6 @@ pub mod direct;
 /// The archive's calls by their pointers and lengths, which show what the safe calls hide where a question refuses.
 #[path = "../../src/ffi.rs"]
 pub mod ffi;
-pub mod fixed;
-pub mod fixed_both;
-pub mod fixed_call;
-pub mod fixed_list;
-pub mod fixed_make;
-pub mod fixed_panels;
-pub mod fixed_questions;
-pub mod fixed_refusing;
-pub mod fixed_request;
 pub mod flaws;
 pub mod formula;
 pub mod groups;

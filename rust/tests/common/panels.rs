@@ -19,23 +19,18 @@ struct Output {
 /// A contraction that passes questions 1 to 10, and 30.
 pub struct Model {
     case: Case,
-    pub groups: Groups,
+    groups: Groups,
     pub cut: Cut,
     outputs: Vec<Output>,
 }
 
 impl Model {
     pub fn of(case: &Case, sizes: TileSizes) -> Self {
-        let mut model = Self::without_sums(case, sizes);
-        model.outputs = model.indices().map(|index| model.output(index)).collect();
-        model
-    }
-
-    /// What knows the states, and no words.
-    pub fn without_sums(case: &Case, sizes: TileSizes) -> Self {
         let groups = Groups::of(case);
         let cut = Cut::of(&groups, sizes);
-        Self { case: case.clone(), groups, cut, outputs: Vec::new() }
+        let mut model = Self { case: case.clone(), groups, cut, outputs: Vec::new() };
+        model.outputs = model.indices().map(|index| model.output(index)).collect();
+        model
     }
 
     /// Every output index. The walk is short where one group has size 0, however large the others are.
@@ -63,7 +58,7 @@ impl Model {
     }
 
     /// The number of the tile that brings a panel to an output index.
-    pub fn number(&self, index: OutputIndex, panel: u64) -> u64 {
+    fn number(&self, index: OutputIndex, panel: u64) -> u64 {
         let (column_block, row_block) = (index.column / self.cut.tile_cols, index.row / self.cut.tile_rows);
         self.cut.number(index.batch, column_block, panel, row_block)
     }
@@ -136,7 +131,7 @@ pub fn outcome(r: &Request) -> Ran {
 /// What a single state question has to answer.
 pub fn state(r: &Request) -> Result<u32, u32> {
     match first_no_of_state(r) {
-        0 => Ok(Model::without_sums(&r.case, r.sizes).state(r.done, r.index)),
+        0 => Ok(Model::of(&r.case, r.sizes).state(r.done, r.index)),
         number => Err(number),
     }
 }

@@ -6,7 +6,7 @@ use super::guard::Guarded;
 use super::lent::{Lent, LentTensor};
 use super::panels;
 use super::request::{Ran, Request};
-use nezgrak::{Refusal, State};
+use nezgrak::State;
 
 /// What stands where the answers go before a call.
 const UNSET_COUNT: u64 = 0x5e17_1e55_c0de_d00d;
@@ -122,11 +122,6 @@ fn ask_safe(r: &Request) -> Result<u32, u32> {
     let result = contraction.state(d, r.sizes, r.done, r.index);
     lent.check(&r.case);
     same_words("D", r, lent.d.words(), &r.case.d.words);
-    state_number(result)
-}
-
-/// What a safe question answered, as the number of the state or of the refusal.
-pub fn state_number(result: Result<State, Refusal>) -> Result<u32, u32> {
     match result {
         Ok(State::Old) => Ok(0),
         Ok(State::Part) => Ok(1),

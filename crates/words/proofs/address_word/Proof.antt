@@ -5,7 +5,7 @@ use Rattle.words.proofs.Strides.{is_negative, is_natural}
 use Rattle.words.proofs.address_word.Statement.{statement}
 use Rattle.words.proofs.address_word.Tie as tie
 
-cast-result : tie.Need-overflow-cast-result
+cast-result : tie.Need-overflow_cast-result
 cast-result c =
     let n = is_negative c.before.args.s c.before.ranges.s c.if1.true in
     rw n.complement (tt, omega arith)

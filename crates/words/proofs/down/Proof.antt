@@ -4,10 +4,10 @@ use Rattle.std.proofs.Common.{arith, rules, le-ltb, lt-ltb}
 use Rattle.words.proofs.down.Statement.{statement}
 use Rattle.words.proofs.down.Tie as tie
 
-sub-result : tie.Need-overflow-sub-result
+sub-result : tie.Need-overflow_sub-result
 sub-result c = search rules
 
-add-result : tie.Need-overflow-add-result
+add-result : tie.Need-overflow_add-result
 add-result c = search rules
 
 returns : tie.Need-returns

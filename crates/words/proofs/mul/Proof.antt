@@ -5,7 +5,7 @@ use Rattle.words.proofs.Modular.{product_lt}
 use Rattle.words.proofs.mul.Statement.{statement}
 use Rattle.words.proofs.mul.Tie as tie
 
-mul-result : tie.Need-overflow-mul-result
+mul-result : tie.Need-overflow_mul-result
 mul-result c = record { fits = product_lt 32 c.ranges.a.fits c.ranges.b.fits }
 
 cast-result : tie.Need-overflow-cast-result

@@ -10,10 +10,10 @@ from_complement x h b =
     let same : 4294967295 - (4294967295 - x) ≡ x = omega arith in
     rw (same, le-ltb x 2147483648 h) (ap negsuc (omega arith))
 
-cast-result : tie.Need-overflow-cast-result
+cast-result : tie.Need-overflow_cast-result
 cast-result c = search rules
 
-sub-result : tie.Need-overflow-sub-result
+sub-result : tie.Need-overflow_sub-result
 sub-result c = search rules
 
 cast-result-2 : tie.Need-overflow-cast-result-2

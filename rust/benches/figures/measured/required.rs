@@ -1,8 +1,7 @@
-//! The ratios that are required of the tiled engine, in fixed point too, and of the delay call.
+//! The ratios that are required of the tiled engine and of the delay call.
 
 use super::contest::{ratio, Case, Times};
 use super::delays::Delays;
-use super::fixed;
 use super::one_tile::OneTile;
 
 pub struct Required {
@@ -18,20 +17,9 @@ impl Required {
     }
 }
 
-pub fn all(
-    cases: &[(Case, Times)],
-    one_tile: &[OneTile],
-    delays: &[Delays],
-    fixed: &[(fixed::Case, fixed::Times)],
-) -> Vec<Required> {
+pub fn all(cases: &[(Case, Times)], one_tile: &[OneTile], delays: &[Delays]) -> Vec<Required> {
     let of_cases = cases.iter().flat_map(|(case, times)| of_case(case, times));
-    let of_calls = one_tile.iter().filter_map(of_tile).chain(delays.iter().filter_map(of_delay));
-    of_cases.chain(of_calls).chain(in_fixed_point(fixed)).collect()
-}
-
-/// Those of the calls in fixed point alone.
-pub fn in_fixed_point(cases: &[(fixed::Case, fixed::Times)]) -> Vec<Required> {
-    cases.iter().filter_map(|(case, times)| of_fixed(case, times)).collect()
+    of_cases.chain(one_tile.iter().filter_map(of_tile)).chain(delays.iter().filter_map(of_delay)).collect()
 }
 
 fn of_case(case: &Case, times: &Times) -> Vec<Required> {
@@ -56,9 +44,4 @@ fn of_delay(delays: &Delays) -> Option<Required> {
     let Delays { samples, greatest_lag, least, .. } = delays;
     let what = format!("the delay of {samples} samples, greatest lag {greatest_lag}: the fastest direct loop");
     Some(Required { what, ratio: ratio(delays.direct(), delays.call), least: (*least)? })
-}
-
-fn of_fixed(case: &fixed::Case, times: &fixed::Times) -> Option<Required> {
-    let what = format!("tiles in fixed point, {}: the wrapping tile call", case.name);
-    Some(Required { what, ratio: times.tiled.ratio(), least: case.least? })
 }

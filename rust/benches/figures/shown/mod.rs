@@ -4,7 +4,6 @@ pub mod archives;
 pub mod bars;
 pub mod costs;
 pub mod document;
-pub mod fixed;
 pub mod lines;
 pub mod machine;
 pub mod scores;

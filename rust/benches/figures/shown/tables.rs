@@ -49,7 +49,7 @@ pub fn layouts(cases: &[(Case, Times)]) -> String {
     table(&["case", "A", "B", "D"], cases.iter().map(row))
 }
 
-pub fn layout(tensor: &Tensor) -> String {
+fn layout(tensor: &Tensor) -> String {
     if tensor.letters.is_empty() {
         return "no letters".to_string();
     }

@@ -2,7 +2,7 @@
 -- Assumes nothing.
 use mathlib.Core.Path.{sym, ◌∙◌}
 use borrow.Author.Rules.{rules}
-use Rattle.words.proofs.Fronts.{lent_length, came_back}
+use Rattle.words.proofs.Lent.{lent_length, came_back}
 use Rattle.decode.proofs.Decoded.{at_front}
 use Rattle.decode.proofs.decode.job_words.Statement.{statement}
 use Rattle.decode.proofs.decode.job_words.Tie as tie

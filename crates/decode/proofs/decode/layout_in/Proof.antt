@@ -5,7 +5,7 @@ use mathlib.Core.Path.{sym}
 use native.Mathlib.Omega.{arith}
 use borrow.Author.Rules.{rules}
 use lib.IntN.{pos}
-use Rattle.words.proofs.Fronts.{CameBack, came_back, lent_length}
+use Rattle.words.proofs.Lent.{CameBack, came_back, lent_length}
 use Rattle.limits.specs.Limits.{rank_limit}
 use Rattle.decode.proofs.Decoded.{layout_made}
 use Rattle.decode.proofs.decode.layout_in.Statement.{statement}

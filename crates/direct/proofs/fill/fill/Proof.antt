@@ -2,13 +2,15 @@
 -- address words are where it begins. A turn fills the places of that run or of four, which are those of the counts from len × m on. The measure is how many runs
 -- are left.
 -- Assumes nothing.
-use mathlib.Core.Path.{◌≡◌, refl, sym, ◌∙◌}
-use Prim.Native.Nat.{◌+◌, ◌-◌, ◌*◌, ◌<◌, ◌≤◌}
-use native.Mathlib.Nat.{mul-zero}
+use mathlib.Core.Path.{◌≡◌, refl, ap, sym, ◌∙◌}
+use mathlib.Core.List.{List}
+use Prim.Native.Nat.{ℕ, ◌+◌, ◌-◌, ◌*◌, ◌<◌, ◌≤◌}
+use native.Mathlib.Nat.{mul-zero, mul-add}
 use native.Mathlib.Omega.{arith}
 use borrow.Author.Rules.{rules}
 use lib.ListN.{length, drop}
 use Rattle.words.specs.Loops.{each}
+use Rattle.words.proofs.Loops.{each_add}
 use Rattle.limits.specs.Limits.{labels_limit}
 use Rattle.offsets.specs.Offsets.{words_in}
 use Rattle.offsets.proofs.OwnedWords.{words_fit}
@@ -16,9 +18,14 @@ use Rattle.odometer.specs.Odometer.{Stands}
 use Rattle.sums.specs.Walk.{places, over}
 use Rattle.sums.proofs.GroupRuns.{first_run}
 use Rattle.output_run.specs.FilledOutput.{filled}
-use Rattle.output_run.proofs.OutputRuns.{runs_more, behind}
+use Rattle.next_runs.proofs.RunsSoFar.{behind}
 use Rattle.direct.proofs.fill.fill.Statement.{statement}
 use Rattle.direct.proofs.fill.fill.Tie as tie
+
+-- D's words after m runs, and after r more
+turn : (len m r : ℕ) (body : ℕ → List ℕ → List ℕ) (d₀ : List ℕ) {d e : List ℕ} → d ≡ each (len * m) body d₀ → e ≡ each (len * r) (λ v. body (len * m + v)) d
+    → e ≡ each (len * (m + r)) body d₀
+turn len m r body d₀ i j = rw mul-add (j ∙ ap (each (len * r) (λ v. body (len * m + v))) i ∙ sym (each_add (len * m) (len * r) body d₀))
 
 abbrev invariant-loop : tie.invariant-loop
 invariant-loop a b c d₀ named alpha beta base output depth rows table labels count fours digits₀ at₀ m₀ d digits at m =
@@ -100,7 +107,7 @@ loop-again c =
       f.ensures.1,
       c.before.advance-by.auto.1.0 ∙ l.invariant.1,
       f.auto.1.1.1.0 ∙ l.invariant.2,
-      runs_more x.output.len l.m f.result (λ n. filled x.named x.alpha x.beta (over x.depth) x.a.now x.b.now x.c.now (places x.base (over x.output) n))
+      turn x.output.len l.m f.result (λ n. filled x.named x.alpha x.beta (over x.depth) x.a.now x.b.now x.c.now (places x.base (over x.output) n))
           x.d.now l.invariant.3 f.ensures.2,
       λ i. c.before.advance-by.ensures.next _ _ _ (behind s.requires.outputs x.base (l.m + f.result) i) c.before.before.before.before.before.before.before.before.before.before.before.before.before.before.before.before.before.before.before.tabulate.ensures.tabled (l.invariant.4 h),
     )

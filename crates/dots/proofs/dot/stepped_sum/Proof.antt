@@ -1,15 +1,20 @@
 -- `stepped_sum` meets its contract. The loop's invariant: v is at most `len`, i and j are v steps from where A and B begin, and the sum is the word of the dot product up to v.
 -- The measure is how many places are left.
 -- Assumes nothing.
-use Rattle.std.proofs.Common.{◌≡◌, ◌-◌, ◌≤◌, refl, arith}
+use Rattle.std.proofs.Common.{◌≡◌, ℕ, ◌+◌, ◌-◌, ◌*◌, ◌^◌, ◌<◌, ◌≤◌, List, get_or, refl, arith}
 use Rattle.words.specs.Words.{word}
 use Rattle.words.specs.Sums.{sum_to}
+use Rattle.words.specs.Loops.{Within}
 use Rattle.words.specs.Stepped.{stepped}
 use Rattle.words.proofs.Modular.{step_none, step_more}
 use Rattle.dots.specs.Dot.{dot}
-use Rattle.dots.proofs.Products.{placed, product_more}
+use Rattle.dots.proofs.Products.{product_more}
 use Rattle.dots.proofs.dot.stepped_sum.Statement.{statement}
 use Rattle.dots.proofs.dot.stepped_sum.Tie as tie
+
+-- an address word that is the place of a count
+placed : {n : ℕ} {place : ℕ → ℕ} {len i v : ℕ} → Within n place len → i ≡ place v → v < n → i < len
+placed {v = v} w e h = rw e (w.each v h)
 
 abbrev invariant-loop : tie.invariant-loop
 invariant-loop a b from-a from-b step-a step-b len i₀ j₀ sum₀ v₀ i j sum v =

@@ -11,8 +11,7 @@ use Rattle.offsets.specs.declared.offsets.Offsets.{Offsets}
 use Rattle.offsets.specs.Offsets.{words_in}
 use Rattle.offsets.proofs.OwnedWords.{words_fit}
 use Rattle.sums.specs.Walk.{steps, over}
-use Rattle.output_run.proofs.OutputRuns.{steps_first}
-use Rattle.outputs.proofs.Blocks.{leapt, block_clear}
+use Rattle.outputs.proofs.Blocks.{steps_first, leapt, block_clear}
 use Rattle.four_lanes.specs.FourLanes.{of_run}
 use Rattle.four_lanes.proofs.ByRun.{by_run, by_runs}
 use Rattle.four_runs.specs.FourRuns.{four_filled, Apart}

@@ -2,7 +2,7 @@
 -- Assumes nothing.
 use mathlib.Core.Path.{sym, ◌∙◌}
 use lib.ListN.{length}
-use Rattle.words.proofs.Fronts.{CameBack, came_back, lent_length}
+use Rattle.words.proofs.Lent.{CameBack, came_back, lent_length}
 use Rattle.limits.specs.Limits.{job_limit}
 use Rattle.report.proofs.Written.{put_as}
 use Rattle.job_call.proofs.Answering.{report_room, report_text_lem}

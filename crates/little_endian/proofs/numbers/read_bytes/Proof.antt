@@ -6,7 +6,7 @@ use Prim.Native.Nat.{◌+◌, ◌*◌, ◌-◌}
 use native.Mathlib.Omega.{arith}
 use lib.ListN.{length}
 use borrow.Author.Rules.{rules}
-use Rattle.words.proofs.Fronts.{Filled, filled_none, filled_more, filled_all}
+use Rattle.words.proofs.Filled.{Filled, filled_none, filled_more, filled_all}
 use Rattle.little_endian.specs.Bytes.{little, numbers}
 use Rattle.little_endian.proofs.Little.{byte_at}
 use Rattle.little_endian.proofs.numbers.read_bytes.Statement.{statement}

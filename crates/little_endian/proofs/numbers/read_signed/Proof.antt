@@ -9,7 +9,7 @@ use mir.Syntax.{w32}
 use mir.ValLaws.{to_z-of_z}
 use borrow.Author.Rules.{rules}
 use Rattle.words.specs.Words.{signed}
-use Rattle.words.proofs.Fronts.{Filled, filled_none, filled_more, filled_all}
+use Rattle.words.proofs.Filled.{Filled, filled_none, filled_more, filled_all}
 use Rattle.little_endian.specs.Bytes.{little}
 use Rattle.little_endian.proofs.Little.{map_numbers}
 use Rattle.little_endian.proofs.numbers.read_signed.Statement.{statement}

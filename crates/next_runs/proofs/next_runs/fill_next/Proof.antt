@@ -10,11 +10,10 @@ use Rattle.offsets.specs.declared.offsets.Offsets.{Offsets}
 use Rattle.offsets.specs.Offsets.{words_in}
 use Rattle.sums.specs.Walk.{over}
 use Rattle.output_run.specs.FilledOutput.{filled, RunFillable}
-use Rattle.output_run.proofs.OutputRuns.{run_clear, behind}
 use Rattle.four_lanes.specs.FourLanes.{of_run}
 use Rattle.four_lanes.proofs.ByRun.{by_run}
 use Rattle.next_runs.specs.NextRuns.{Begins}
-use Rattle.next_runs.proofs.RunsSoFar.{runs_as_one, runs_apart}
+use Rattle.next_runs.proofs.RunsSoFar.{run_clear, runs_as_one, runs_apart, behind}
 use Rattle.next_runs.proofs.Carrying.{one_begins}
 use Rattle.next_runs.proofs.next_runs.fill_next.Statement.{statement}
 use Rattle.next_runs.proofs.next_runs.fill_next.Tie as tie
@@ -48,7 +47,7 @@ module _ (c : tie.After-fill-four-arg) where
       record {
         walks = start.pre.0.depths;
         rows = start.pre.2;
-        clear = run_clear start.pre.0.outputs start.args.base (omega (arith, four_left)) (begins q h).stands start.pre.0.clear;
+        clear = run_clear start.pre.0.outputs start.args.base (omega (arith, four_left)) (begins q h) start.pre.0.clear;
       }
 
 fill-four-requires : tie.Need-fill-four-requires
@@ -86,7 +85,7 @@ module _ (c : tie.After-fill-outputs-arg) where
 fill-outputs-requires : tie.Need-fill-outputs-requires
 fill-outputs-requires c κs =
     let s = first c in
-    record { walks = s.pre.0.depths; rows = s.pre.2; clear = run_clear s.pre.0.outputs s.args.base s.pre.4 s.pre.5 s.pre.0.clear }
+    record { walks = s.pre.0.depths; rows = s.pre.2; clear = run_clear s.pre.0.outputs s.args.base s.pre.4 (begin c) s.pre.0.clear }
 
 same-length-2 : tie.Need-same-length-2
 same-length-2 c = search rules

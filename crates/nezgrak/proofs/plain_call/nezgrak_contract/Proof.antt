@@ -1,8 +1,7 @@
 -- `nezgrak_contract` meets its contract: it hands on what the plain call answers for the contraction that is handed in.
 -- Assumes nothing.
 use borrow.Author.Rules.{rules}
-use Rattle.answers.proofs.Handed.{plain_handed}
-use Rattle.nezgrak.proofs.Unnamed.{plain_unnamed}
+use Rattle.nezgrak.proofs.Handed.{plain_handed, plain_unnamed}
 use Rattle.nezgrak.proofs.plain_call.nezgrak_contract.Statement.{statement}
 use Rattle.nezgrak.proofs.plain_call.nezgrak_contract.Tie as tie
 

@@ -1,8 +1,7 @@
 -- `nezgrak_state` meets its contract: it hands on what the state question answers for the contraction that is handed in.
 -- Assumes nothing.
 use borrow.Author.Rules.{rules}
-use Rattle.answers.proofs.Handed.{state_handed}
-use Rattle.nezgrak.proofs.Unnamed.{state_unnamed}
+use Rattle.nezgrak.proofs.Handed.{state_handed, state_unnamed}
 use Rattle.nezgrak.proofs.state_call.nezgrak_state.Statement.{statement}
 use Rattle.nezgrak.proofs.state_call.nezgrak_state.Tie as tie
 

@@ -1,8 +1,7 @@
 -- `nezgrak_run_tiles` meets its contract: it hands on what the tile call answers for the contraction that is handed in.
 -- Assumes nothing.
 use borrow.Author.Rules.{rules}
-use Rattle.answers.proofs.Handed.{tiles_handed}
-use Rattle.nezgrak.proofs.Unnamed.{tiles_unnamed}
+use Rattle.nezgrak.proofs.Handed.{tiles_handed, tiles_unnamed}
 use Rattle.nezgrak.proofs.tile_call.nezgrak_run_tiles.Statement.{statement}
 use Rattle.nezgrak.proofs.tile_call.nezgrak_run_tiles.Tie as tie
 

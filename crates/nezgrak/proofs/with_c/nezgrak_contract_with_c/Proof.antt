@@ -1,8 +1,7 @@
 -- `nezgrak_contract_with_c` meets its contract: it hands on what the plain call answers for the contraction that is handed in.
 -- Assumes nothing.
 use borrow.Author.Rules.{rules}
-use Rattle.answers.proofs.Handed.{plain_handed}
-use Rattle.nezgrak.proofs.Unnamed.{plain_same}
+use Rattle.nezgrak.proofs.Handed.{plain_handed, plain_same}
 use Rattle.nezgrak.proofs.with_c.nezgrak_contract_with_c.Statement.{statement}
 use Rattle.nezgrak.proofs.with_c.nezgrak_contract_with_c.Tie as tie
 

@@ -1,8 +1,7 @@
 -- `nezgrak_run_tiles_with_c` meets its contract: it hands on what the tile call answers for the contraction that is handed in.
 -- Assumes nothing.
 use borrow.Author.Rules.{rules}
-use Rattle.answers.proofs.Handed.{tiles_handed}
-use Rattle.nezgrak.proofs.Unnamed.{tiles_same}
+use Rattle.nezgrak.proofs.Handed.{tiles_handed, tiles_same}
 use Rattle.nezgrak.proofs.with_c.nezgrak_run_tiles_with_c.Statement.{statement}
 use Rattle.nezgrak.proofs.with_c.nezgrak_run_tiles_with_c.Tie as tie
 

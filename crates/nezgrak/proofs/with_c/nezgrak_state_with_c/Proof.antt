@@ -1,8 +1,7 @@
 -- `nezgrak_state_with_c` meets its contract: it hands on what the state question answers for the contraction that is handed in.
 -- Assumes nothing.
 use borrow.Author.Rules.{rules}
-use Rattle.answers.proofs.Handed.{state_handed}
-use Rattle.nezgrak.proofs.Unnamed.{state_same}
+use Rattle.nezgrak.proofs.Handed.{state_handed, state_same}
 use Rattle.nezgrak.proofs.with_c.nezgrak_state_with_c.Statement.{statement}
 use Rattle.nezgrak.proofs.with_c.nezgrak_state_with_c.Tie as tie
 

@@ -6,20 +6,41 @@ use mathlib.Core.Path.{◌≡◌, refl, sym, ap, ◌∙◌, subst}
 use mathlib.Core.Bool.{Bool, true, false, cond, not, ◌&&◌, true≢false}
 use mathlib.Core.List.{List}
 use mathlib.Core.Logic.{⊎_elim}
-use Prim.Native.Nat.{ℕ}
+use Prim.Native.Nat.{ℕ, ◌-◌, ◌*◌, ◌≤◌}
+use native.Mathlib.Omega.{arith}
 use borrow.Author.Rules.{rules}
 use lib.ListN.{length}
 use Rattle.contraction.specs.Operands.{D}
+use Rattle.plan.specs.declared.plan.Plan.{Plan}
+use Rattle.tiles.specs.Cut.{Cut}
 use Rattle.tiles.specs.Grid.{cut_in}
 use Rattle.tiles.specs.Setting.{tile_step}
+use Rattle.tile_blocks.specs.Planned.{Clear}
+use Rattle.tile_blocks.specs.Side.{left, right}
 use Rattle.tile_blocks.proofs.TileParts.{tile_begins}
+use Rattle.tile_packs.specs.TilePacks.{packs, renewed}
 use Rattle.phases.specs.Phases.{OutputClear, begun}
 use Rattle.thin_tile.specs.ThinTile.{TileClear, tile_added}
-use Rattle.one_tile.proofs.HeldBlocks.{some_rows, held_by, tile_packed}
-use Rattle.one_tile.proofs.TileClear.{first_room, left_clear, right_clear, out_clear, tile_clear}
+use Rattle.one_tile.specs.HeldPacks.{HeldAfter}
+use Rattle.one_tile.proofs.HeldBlocks.{some_rows, held_after}
 use Rattle.one_tile.proofs.TilePhases.{tile_numbered, tile_stepped, tile_started}
 use Rattle.one_tile.proofs.tile.run_tile.Statement.{statement}
 use Rattle.one_tile.proofs.tile.run_tile.Tie as tie
+
+-- the first of two blocks has room where both have, and the second behind it
+first_room : (G : Cut) {z : ℕ} → packs G ≤ z → G.rows * G.depth ≤ z
+first_room G h = omega arith
+
+room_behind : (G : Cut) {z : ℕ} → packs G ≤ z → G.cols * G.depth ≤ z - G.rows * G.depth
+room_behind G h = omega arith
+
+-- the tile's words of D are inside
+out_clear : {p : Plan} {G : Cut} {named : Bool} {a b c d : ℕ} → Clear p G named a b c d → OutputClear p G D d
+out_clear k = record { inside = λ h i j x y z. k.places.inside h i j (x, y, z) }
+
+-- the tile's words of A and B are inside too
+tile_clear : {p : Plan} {G : Cut} {named : Bool} {a b c d : ℕ} → Clear p G named a b c d → TileClear p G a b d
+tile_clear k = record { reads = k.in_side; places = k.places }
 
 tile-requires : tie.Need-tile-requires
 tile-requires c κs = search rules
@@ -82,7 +103,7 @@ pack-a-requires : tie.Need-pack-a-requires
 pack-a-requires c κs =
     let s = c.before.before.before.before.before.before.before.before.before.before.before.before.before.before in
     let q = s.requires in
-    (q.0, tile_begins q.0 q.1 c.before.before.before.before.before.before.before.before.tile.ensures, left_clear q.2 q.3)
+    (q.0, tile_begins q.0 q.1 c.before.before.before.before.before.before.before.before.tile.ensures, record { reads = q.2.in_side left; room = first_room (cut_in s.args.g) q.3 })
 
 renew-b-requires : tie.Need-renew-b-requires
 renew-b-requires c κs =
@@ -90,7 +111,7 @@ renew-b-requires c κs =
     let q = s.requires in
     let G = cut_in s.args.g in
     let same = c.before.before.before.pack-a.auto.1.1.1.1.0 in
-    (q.0, tile_begins q.0 q.1 c.before.before.before.before.before.before.before.before.before.before.before.before.tile.ensures, rw same (first_room G q.3), rw same (right_clear q.2 q.3))
+    (q.0, tile_begins q.0 q.1 c.before.before.before.before.before.before.before.before.before.before.before.before.tile.ensures, rw same (first_room G q.3), record { reads = q.2.in_side right; room = rw same (room_behind G q.3) })
 
 multiply-into-d-requires : tie.Need-multiply-into-d-requires
 multiply-into-d-requires c κs =
@@ -114,12 +135,14 @@ returns-2 c =
     let q = k.requires in
     let G = cut_in s.g in
     let t = c.before.before.before.before.before.before.before.before.before.before.before.before.before.before.before.before.before.before.before.before.tile.ensures in
-    let h = held_by s.p G s.a.now s.b.now t (some_rows G q.1) s.held s.work.now q.3 q.4
-    c.before.before.before.before.before.before.before.before.before.before.before.pack-a.ensures c.before.before.before.before.before.before.before.renew-b.ensures in (
+    let x = c.before.before.before.before.before.before.before.before.before.before.before.before.before.before.before.before.before.before.before.before.tile.result in
+    let e = c.before.before.before.before.before.before.before.renew-b.ensures ∙ ap (renewed s.p G x s.held s.b.now) c.before.before.before.before.before.before.before.before.before.before.before.pack-a.ensures in
+    let h = subst (HeldAfter s.p G s.a.now s.b.now s.n s.work.now) (sym e)
+    (held_after s.p G s.a.now s.b.now t (some_rows G q.1) s.held s.work.now q.3 q.4) in (
       tile_stepped s.p t s.a.now s.b.now h.blocks c.before.before.multiply-into-d.ensures
           ∙ ap (tile_step _ _) (rw c.before.before.before.before.before.before.before.before.before.before.before.before.before.if2.false at (here c.before.before.before.before.before.before.before.before.before.before.before.before.before.before).0)
           ∙ tile_started s.p t q.1 s.alpha s.beta s.a.now s.b.now s.c.now s.d.now q.2.places s.named,
-      tile_packed refl h,
+      record { held = λ z. h; same = λ z. absurd (true≢false z); end = λ z. refl },
     )
 
 pub run_tile_spec : {M : Type 1} → statement M

@@ -7,8 +7,7 @@ use Rattle.offsets.specs.Offsets.{words_in}
 use Rattle.offsets.proofs.OwnedWords.{words_fit}
 use Rattle.sums.specs.Walk.{steps, over}
 use Rattle.output_run.specs.FilledOutput.{filled}
-use Rattle.output_run.proofs.OutputRuns.{steps_first}
-use Rattle.outputs.proofs.Blocks.{leapt, block_clear, block_turn}
+use Rattle.outputs.proofs.Blocks.{steps_first, leapt, block_clear, block_turn}
 use Rattle.outputs.proofs.outputs.fill_blocks.Statement.{statement}
 use Rattle.outputs.proofs.outputs.fill_blocks.Tie as tie
 

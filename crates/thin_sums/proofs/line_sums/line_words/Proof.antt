@@ -2,7 +2,8 @@
 -- Assumes nothing.
 use Rattle.std.proofs.Common.{◌≡◌, ℕ, ◌+◌, ◌-◌, ◌<◌, ◌≤◌, List, length, get_or, refl, ap, ◌∙◌, arith}
 use Rattle.words.specs.Words.{word}
-use Rattle.words.proofs.Fronts.{get_or_front, Filled, filled_none, filled_more}
+use Rattle.words.proofs.Fronts.{get_or_front}
+use Rattle.words.proofs.Filled.{Filled, filled_none, filled_more}
 use Rattle.limits.specs.Limits.{depth_limit}
 use Rattle.thin_sums.specs.LineSums.{LineOf}
 use Rattle.thin_sums.proofs.line_sums.line_words.Statement.{statement}

@@ -3,7 +3,8 @@
 use Rattle.std.proofs.Common.{◌≡◌, ℕ, ◌+◌, ◌-◌, ◌<◌, ◌≤◌, List, length, get_or, refl, ap, ◌∙◌, arith}
 use Rattle.words.specs.Words.{word}
 use Rattle.words.specs.Stepped.{stepped}
-use Rattle.words.proofs.Fronts.{get_or_front, Filled, filled_none, filled_more}
+use Rattle.words.proofs.Fronts.{get_or_front}
+use Rattle.words.proofs.Filled.{Filled, filled_none, filled_more}
 use Rattle.limits.specs.Limits.{block_limit}
 use Rattle.dots.specs.Dot.{dot}
 use Rattle.kernel.specs.Kernel.{ColumnSums}

@@ -1,17 +1,22 @@
 -- `run` meets its contract: where a question refuses, nothing was written; where all pass, the grid's cut is the contraction's, and the tiles
 -- that run leave what its setting says.
 -- Assumes nothing.
-use mathlib.Core.Path.{◌≡◌, ap, ◌∙◌}
+use mathlib.Core.Path.{◌≡◌, sym, ap, ◌∙◌}
 use mathlib.Core.List.{List, ◌++◌}
-use Prim.Native.Nat.{ℕ, ◌+◌, ◌-◌, min}
+use Prim.Native.Nat.{ℕ, ◌+◌, ◌-◌, ◌*◌, ◌≤◌, min}
+use native.Mathlib.Nat.{mul_comm}
+use native.Mathlib.Omega.{arith}
 use lib.Dec.{eqb}
 use lib.ListN.{length}
 use borrow.Author.Rules.{rules}
+use borrow.Author.Tests.{leb-true}
+use Rattle.words.proofs.Tabulate.{length_tabulate}
 use Rattle.contraction.specs.declared.contraction.Contraction.{Contraction}
 use Rattle.contraction.specs.Operands.{A, B, C, D, four, tensors}
 use Rattle.meaning.specs.Meaning.{Slices, lengths_in}
 use Rattle.tensor_answers.specs.Asking.{refusal}
 use Rattle.questions.specs.Questions.{layout_questions}
+use Rattle.tensor_answers.proofs.Refusal.{passed}
 use Rattle.plan.specs.declared.plan.Plan.{Plan}
 use Rattle.plan.specs.Plan.{Planned}
 use Rattle.tiles.specs.declared.grid.Sizes.{Sizes}
@@ -19,45 +24,82 @@ use Rattle.tiles.specs.declared.grid.Grid.{Grid}
 use Rattle.tiles.specs.Cut.{Cut, total}
 use Rattle.tiles.specs.Grid.{cut_in}
 use Rattle.tiles.specs.Setting.{walk, tiles_from}
-use Rattle.tile_blocks.specs.ContractionInTiles.{setting}
-use Rattle.tile_blocks.specs.Planned.{GridOf, read_in, plan_setting}
+use Rattle.tiles.proofs.Visits.{tiles_below}
+use Rattle.tile_blocks.specs.ContractionInTiles.{cut_of, setting}
+use Rattle.tile_blocks.specs.Planned.{GridOf, Clear, read_in, plan_setting}
 use Rattle.tile_questions.specs.TileQuestions.{size_question, room_question, done_question}
-use Rattle.tiling.specs.Work.{packed_last}
+use Rattle.tiling.specs.Work.{packed_last, work_after}
 use Rattle.answers.specs.TileAnswer.{ran, tile_refused, tile_call_of}
 use Rattle.tiled.specs.TileCall.{ran_call, tile_call}
 use Rattle.accept.proofs.AcceptQuestions.{asked, accepted}
-use Rattle.accept.proofs.Accepted.{none_refused}
+use Rattle.accept.proofs.Accepted.{none_refused, grid_cut}
+use Rattle.accept.proofs.Soundness.{clear}
 use Rattle.tiled.proofs.TileAnswered.{tile_early, tile_late, tile_ran}
-use Rattle.tiled.proofs.Agrees.{walk_agrees}
-use Rattle.tiled.proofs.TilesAsked.{cut, late, t_below, run_asks, below, whole, count_after, work_left}
+use Rattle.tiled.proofs.Agrees.{walk_agrees, work_agrees}
 use Rattle.tiled.proofs.call.run.Statement.{statement}
 use Rattle.tiled.proofs.call.run.Tie as tie
+
+tiles_counted : (t n : ℕ) → length (tiles_from t n) ≡ n
+unfolding tiles_from
+tiles_counted t n = length_tabulate n (λ k. t + k)
 
 -- n is the number that `Accept::of` answered, k that of `tile_refusal`
 module _ (c : Contraction) (z : Sizes) (w : Slices) {n : ℕ} (e : n ≡ refusal (layout_questions (tensors c) (lengths_in c w) ++ size_question z)) (y : n ≡ 0)
     (p : Plan) (q : Planned (tensors c) p) (g : Grid) (o : GridOf p g × (g.sizes ≡ z)) (work : List ℕ) (t : ℕ)
     {k : ℕ} (r : k ≡ refusal (room_question g.sizes (length work) ++ done_question (cut_in g) t)) where
-  late_no : (budget : ℕ) → (k ≡ 0 → ⊥) → tile_call_of (tile_refused k t) (w D) work ≡ tile_call c z w work t budget
-  late_no budget = tile_late c z w work t budget (none_refused c z w e y) (late c z w e y p q g o work t r)
+  cut : cut_in g ≡ cut_of c z
+  cut = grid_cut c z w e y p q g o
 
-  all_ran : k ≡ 0 → (budget count : ℕ) → count ≡ min budget (g.total - t) → {r : ℕ} {d' work' : List ℕ} → r ≡ t + length (tiles_from t count)
-      → d' ≡ walk (plan_setting p (cut_in g) c.named c.alpha c.beta (w A) (w B) (w C)) (tiles_from t count) (w D)
-      → work' ≡ packed_last (cut_in g) (read_in p (w A) (w B)) (tiles_from t count) work
-      → tile_call_of (ran r (eqb r g.total)) d' work' ≡ tile_call c z w work t budget
-  unfolding ran_call
-  all_ran x budget count m {d' = d'} er ed ew =
-      let ten = none_refused c z w e y in
-      let words : d' ≡ walk (setting c z w) (tiles_from t count) (w D) =
-      ed ∙ ap (λ (G : Cut). walk (plan_setting p G c.named c.alpha c.beta (w A) (w B) (w C)) (tiles_from t count) (w D)) (cut c z w e y p q g o work t r)
-      ∙ walk_agrees c z w (accepted c z w ten).0 p q (tiles_from t count) (below c z w e y p q g o work t r x budget count m) (w D) in
-      rw (
-        count_after c z w e y p q g o work t r x budget count m er,
-        words,
-        work_left c z w e y p q g o work t r x budget count m ew,
-        m,
-        whole c z w e y p q g o work t r x budget count m,
+  -- questions 11 and 12 are asked of the grid's sizes and cut, which are the contraction's
+  late : k ≡ refusal (room_question z (length work) ++ done_question (cut_of c z) t)
+  late =
+      r ∙ ap (λ (s : Sizes). refusal (room_question s (length work) ++ done_question (cut_in g) t)) o.1
+      ∙ ap (λ (G : Cut). refusal (room_question z (length work) ++ done_question G t)) cut
+
+  late_no : (budget : ℕ) → (k ≡ 0 → ⊥) → tile_call_of (tile_refused k t) (w D) work ≡ tile_call c z w work t budget
+  late_no budget = tile_late c z w work t budget (none_refused c z w e y) late
+
+  -- where they pass
+  module _ (x : k ≡ 0) where
+    room_and_count : (g.sizes.rows * g.sizes.depth + g.sizes.depth * g.sizes.cols ≤ length work) × (t ≤ total (cut_in g))
+    unfolding room_question done_question
+    room_and_count =
+        let all = passed (room_question g.sizes (length work) ++ done_question (cut_in g) t) tt (sym r ∙ x) in
+        (leb-true _ _ all.0, leb-true _ _ all.1.0)
+
+    t_below : t ≤ g.total
+    t_below = rw o.0.counted.total room_and_count.1
+
+    -- what `run_tiles` asks for a count of tiles, and what it leaves
+    module _ (budget count : ℕ) (m : count ≡ min budget (g.total - t)) where
+      in_total : t + count ≤ total (cut_in g)
+      in_total = omega (arith, m, t_below, o.0.counted.total)
+
+      run_asks : GridOf p g × (t + count ≤ total (cut_in g)) × Clear p (cut_in g) c.named (length (w A)) (length (w B)) (length (w C)) (length (w D))
+          × (g.sizes.rows * g.sizes.depth + g.sizes.cols * g.sizes.depth ≤ length work)
+      run_asks = (
+        o.0,
+        in_total,
+        rw cut (clear c z w (accepted c z w (none_refused c z w e y)).0 (accepted c z w (none_refused c z w e y)).1 p q),
+        rw (mul_comm g.sizes.cols g.sizes.depth) room_and_count.0,
       )
-      (tile_ran c z w work t budget ten (late c z w e y p q g o work t r) x)
+
+      all_ran : {r : ℕ} {d' work' : List ℕ} → r ≡ t + length (tiles_from t count)
+          → d' ≡ walk (plan_setting p (cut_in g) c.named c.alpha c.beta (w A) (w B) (w C)) (tiles_from t count) (w D)
+          → work' ≡ packed_last (cut_in g) (read_in p (w A) (w B)) (tiles_from t count) work
+          → tile_call_of (ran r (eqb r g.total)) d' work' ≡ tile_call c z w work t budget
+      unfolding ran_call
+      all_ran {r} {d'} {work'} er ed ew =
+          let ten = none_refused c z w e y in
+          let ok = (accepted c z w ten).0 in
+          let below = tiles_below (cut_of c z) t count (rw (sym cut) in_total) in
+          let whole : g.total ≡ total (cut_of c z) = o.0.counted.total ∙ ap total cut in
+          let done : r ≡ t + count = er ∙ ap (λ (i : ℕ). t + i) (tiles_counted t count) in
+          let words : d' ≡ walk (setting c z w) (tiles_from t count) (w D) =
+          ed ∙ ap (λ (G : Cut). walk (plan_setting p G c.named c.alpha c.beta (w A) (w B) (w C)) (tiles_from t count) (w D)) cut ∙ walk_agrees c z w ok p q (tiles_from t count) below (w D) in
+          let packs : work' ≡ work_after c z w (tiles_from t count) work =
+          ew ∙ ap (λ (G : Cut). packed_last G (read_in p (w A) (w B)) (tiles_from t count) work) cut ∙ work_agrees c z w ok p q (tiles_from t count) below work in
+          rw (done, words, packs, m, whole) (tile_ran c z w work t budget ten late x)
 
 -- the slices as they were handed in
 abbrev lent : tie.Start → Slices

@@ -1,7 +1,6 @@
 //! One loop nest for each shape: the extents and strides are constants, and the innermost loop is one that vectorises.
 //! Sums are held in local arrays and put into D at the end. No packing. docs/PERFORMANCE.md has what else was tried.
 
-pub mod fixed;
 mod permuted;
 mod products;
 mod thin;

@@ -10,7 +10,7 @@ first-axes-requires c κs = search rules
 
 returns : tie.Need-returns
 unfolding layout_of
-returns c = rw c.first_axes.ensures
+returns c = rw c.first-axes.ensures
 
 pub new_spec : {M : Type 1} → statement M
 new_spec = tie.close (tie.spec first-axes-requires returns)
