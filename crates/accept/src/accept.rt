@@ -12,7 +12,7 @@ use tile_questions::refusals::size_refusal;
 use tiles::grid::{Counts, Grid, Sizes};
 
 // The number of the first of questions 1 to 10 that fails, or 0; where it is 0, the plan of the contraction and the grid of its tiles.
-#[derive(Drop)]
+#[derive(Clone, Copy)]
 pub struct Accept {
     pub number: u32,
     pub plan: Plan,

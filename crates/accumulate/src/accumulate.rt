@@ -8,7 +8,7 @@ ghost use Rattle.accumulate.specs.Added.{added_to, all_added};
 use limits::limits::Limits;
 
 // What D's words become: alpha × a sum is added, in the first panel to beta × the old word.
-#[derive(Drop)]
+#[derive(Clone, Copy)]
 pub struct Factors {
     pub alpha: u32,
     pub beta: u32,

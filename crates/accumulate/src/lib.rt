@@ -1,2 +1,4 @@
 // Sums added to D's words: of one row, and of rows whose words are a step apart.
+#![tactic(auto)]
+
 pub mod accumulate;

@@ -3,7 +3,7 @@ ghost use Rattle.answers.specs.DelayAnswer.{delay_answer};
 ghost use Rattle.answers.specs.FlatDelay.{delay_status, lag_after, score_after};
 
 // What a delay call answers: a lag and its score, or the number of the question that refused.
-#[derive(Drop)]
+#[derive(Clone, Copy)]
 pub enum Delay {
     Found { lag: u64, score: i64 },
     Refused(u32),

@@ -1,4 +1,6 @@
 // What the calls answer, as enums, and each answer as the numbers that the calls for C and Rust return and set.
+#![tactic(auto)]
+
 pub mod delay_answer;
 pub mod plain_answer;
 pub mod state_answer;

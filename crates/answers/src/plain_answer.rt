@@ -3,7 +3,7 @@ ghost use Rattle.answers.specs.PlainAnswer.{plain_answer};
 ghost use Rattle.answers.specs.FlatPlain.{plain_status};
 
 // What a plain call answers: done, or the number of the question that refused.
-#[derive(Drop)]
+#[derive(Clone, Copy)]
 pub enum Outcome {
     Done,
     Refused(u32),

@@ -6,7 +6,7 @@ ghost use Rattle.answers.specs.FlatState.{state_status, state_after};
 use tiles::grid::State;
 
 // What a state question answers: no panel done, some, all, or the number of the question that refused.
-#[derive(Drop)]
+#[derive(Clone, Copy)]
 pub enum Found {
     Old,
     Part,

@@ -3,7 +3,7 @@ ghost use Rattle.answers.specs.TileAnswer.{tile_answer, done_in};
 ghost use Rattle.answers.specs.FlatTiles.{tile_status, said_complete};
 
 // What a tile call answers: the new count of tiles done and whether that is the total, or the number of the question that refused and the count as given.
-#[derive(Drop)]
+#[derive(Clone, Copy)]
 pub enum Outcome {
     Ran { done: u64, complete: bool },
     Refused { number: u32, done: u64 },

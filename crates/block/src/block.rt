@@ -7,7 +7,7 @@ ghost use Rattle.block.specs.Places.{as_step, Measured, StepOf, BlockOf};
 use limits::limits::Limits;
 
 // The step of a block of offsets: each is the one before plus the step, or they are scattered.
-#[derive(Drop)]
+#[derive(Clone, Copy)]
 pub enum Step {
     Even(u64),
     Scattered,
@@ -15,7 +15,7 @@ pub enum Step {
 
 // The offsets of a block of rows or columns, as address words, beside their count and step; `lengths` has, for each place, how many offsets from there on
 // form the longest even stretch.
-#[derive(Drop)]
+#[derive(Clone, Copy)]
 pub struct Block {
     pub offsets: [u64; Limits::BLOCK],
     pub lengths: [u8; Limits::BLOCK],

@@ -14,7 +14,7 @@ use limits::limits::Limits;
 use store::store::{store_column, store_few};
 
 // The sizes of a packed tile, and how many of its lanes are filled.
-#[derive(Drop)]
+#[derive(Clone, Copy)]
 pub struct Packing {
     pub rows: usize,
     pub cols: usize,
@@ -23,7 +23,7 @@ pub struct Packing {
 }
 
 // The rows and the columns of a tile of D: where the tile begins, how many of each there are, and the step across from column to column.
-#[derive(Drop)]
+#[derive(Clone, Copy)]
 pub struct Lines {
     pub from: u64,
     pub rows: usize,

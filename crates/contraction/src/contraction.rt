@@ -5,7 +5,7 @@ use layout::layout::Layout;
 
 // D's word becomes alpha × (sum over every label that D lacks of A's entry × B's entry) + beta × C's entry. C may be left out: where it is not named, its
 // layout means nothing, and beta × D's old word is added.
-#[derive(Drop)]
+#[derive(Clone, Copy)]
 pub struct Contraction {
     pub a: Layout,
     pub b: Layout,
@@ -17,7 +17,7 @@ pub struct Contraction {
 }
 
 // How many words each tensor's slice has. C's means nothing where C is not named.
-#[derive(Drop)]
+#[derive(Clone, Copy)]
 pub struct Lengths {
     pub a: usize,
     pub b: usize,

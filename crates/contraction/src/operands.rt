@@ -13,7 +13,7 @@ use labels::letter_sets::{Labelled, Letters};
 use layout::axes::Axes;
 
 // The axes of each tensor beside their letters, and the different letters of all: D's, then A's, B's and C's. Where C is not named, its axes are D's.
-#[derive(Drop)]
+#[derive(Clone, Copy)]
 pub struct Operands {
     pub a: Labelled,
     pub b: Labelled,

@@ -1,2 +1,4 @@
 // Sums of A × B along a run of places.
+#![tactic(auto)]
+
 pub mod dot;

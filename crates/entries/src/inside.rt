@@ -9,7 +9,7 @@ use labels::labels::{extent_of, last_index, stride_of};
 use labels::letter_sets::Labelled;
 
 // How far the entries of a tensor reach above and below its base, and whether there are any.
-#[derive(Drop)]
+#[derive(Clone, Copy)]
 pub struct Reach {
     pub up: u64,
     pub down: u64,

@@ -7,7 +7,7 @@ use limits::limits::Limits;
 use shared_lane::shared_lane::add_block_lane_to_four;
 
 // The sums of four columns that stand side by side.
-#[derive(Drop)]
+#[derive(Clone, Copy)]
 pub struct Four {
     pub first: [u32; Limits::BLOCK],
     pub second: [u32; Limits::BLOCK],

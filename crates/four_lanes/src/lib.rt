@@ -1,2 +1,4 @@
 // The products of a run of depth counts for four runs of outputs at a time that share what is read of A.
+#![tactic(auto)]
+
 pub mod four_lanes;

@@ -15,7 +15,7 @@ use outputs::outputs::clipped;
 use sums::walk::Walk;
 
 // Where the three runs after a run begin, and whether they share with it what is read of A.
-#[derive(Drop)]
+#[derive(Clone, Copy)]
 pub struct NextRuns {
     pub second: Offsets,
     pub third: Offsets,

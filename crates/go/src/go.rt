@@ -8,7 +8,7 @@ use marks::marks::{is_go, kind_of};
 use tiles::grid::Sizes;
 
 // What `GO` holds.
-#[derive(Drop)]
+#[derive(Clone, Copy)]
 pub struct Go {
     pub alpha: u32,
     pub beta: u32,
@@ -17,7 +17,7 @@ pub struct Go {
     pub budget: u64,
 }
 
-#[derive(Drop)]
+#[derive(Clone, Copy)]
 pub enum GoRead {
     Got { go: Go, next: Cursor },
     Refused(u32),

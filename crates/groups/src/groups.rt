@@ -16,7 +16,7 @@ use labels::labels::stride_of;
 use limits::limits::Limits;
 
 // A label, or several that were joined, with its extent and its stride in each tensor as an address word.
-#[derive(Drop)]
+#[derive(Clone, Copy)]
 pub struct Dim {
     pub letter: u32,
     pub extent: u32,
@@ -24,14 +24,14 @@ pub struct Dim {
 }
 
 // The labels of a group in order, the fastest first.
-#[derive(Drop)]
+#[derive(Clone, Copy)]
 pub struct Group {
     pub dims: [Dim; Limits::LABELS],
     pub count: usize,
 }
 
 // The four groups as sets of letters.
-#[derive(Drop)]
+#[derive(Clone, Copy)]
 pub struct Sets {
     pub batch: u64,
     pub row: u64,
@@ -40,7 +40,7 @@ pub struct Sets {
 }
 
 // The four groups of labels.
-#[derive(Drop)]
+#[derive(Clone, Copy)]
 pub struct Groups {
     pub batch: Group,
     pub row: Group,

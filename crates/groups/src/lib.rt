@@ -1,2 +1,4 @@
 // The labels of a contraction in four groups.
+#![tactic(auto)]
+
 pub mod groups;

@@ -1,2 +1,4 @@
 // One tile call on lent slices, and the text that answers it.
+#![tactic(auto)]
+
 pub mod answer;

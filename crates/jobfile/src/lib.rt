@@ -1,2 +1,4 @@
 // A job file, read front to back.
+#![tactic(auto)]
+
 pub mod reader;

@@ -8,7 +8,7 @@ use little_endian::numbers::Cursor;
 use records::records::{TensorParts, TensorRead, layout_begins, tensor_records};
 
 // Where the tensors of a job stand in its file, whether it names C, and what `GO` holds. Where it names no C, D stands for it.
-#[derive(Drop)]
+#[derive(Clone, Copy)]
 pub struct JobParts {
     pub a: TensorParts,
     pub b: TensorParts,
@@ -19,7 +19,7 @@ pub struct JobParts {
 }
 
 // A job and where it ends, or the number that refuses the file.
-#[derive(Drop)]
+#[derive(Clone, Copy)]
 pub enum JobRead {
     Got { parts: JobParts, end: Cursor },
     Refused(u32),

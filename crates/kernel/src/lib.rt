@@ -1,2 +1,4 @@
 // The kernel: the sums of one column of a packed tile.
+#![tactic(auto)]
+
 pub mod kernel;

@@ -12,7 +12,7 @@ use layout::axes::Axes;
 use limits::limits::Limits;
 
 // Different letters in order, beside the set of them as bits of a 64-bit word.
-#[derive(Drop)]
+#[derive(Clone, Copy)]
 pub struct Letters {
     pub letters: [u8; Limits::LETTERS],
     pub count: usize,
@@ -96,7 +96,7 @@ impl Letters {
 }
 
 // A list of axes beside its different letters.
-#[derive(Drop)]
+#[derive(Clone, Copy)]
 pub struct Labelled {
     pub axes: Axes,
     pub letters: Letters,

@@ -1,3 +1,5 @@
 // The labels of axes: their letters as sets, their extents and their strides.
+#![tactic(auto)]
+
 pub mod labels;
 pub mod letter_sets;

@@ -1,2 +1,4 @@
 // Lanes: products added to sums that stand side by side.
+#![tactic(auto)]
+
 pub mod lanes;

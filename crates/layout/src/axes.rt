@@ -6,7 +6,7 @@ use super::layout::{Axis, Layout};
 use limits::limits::Limits;
 
 // The axes of a tensor.
-#[derive(Drop)]
+#[derive(Clone, Copy)]
 pub struct Axes {
     pub items: [Axis; Limits::RANK],
     pub count: usize,

@@ -4,7 +4,7 @@ ghost use Rattle.layout.specs.Layout.{layout_of, axes_of};
 use limits::limits::Limits;
 
 // One letter of a tensor with its extent and its stride.
-#[derive(Drop)]
+#[derive(Clone, Copy)]
 pub struct Axis {
     pub letter: u32,
     pub extent: u32,
@@ -13,7 +13,7 @@ pub struct Axis {
 
 // A tensor's layout as it was handed in: the first 8 axes, and how many letters, extents and strides there were, so that
 // questions 1 and 2 can be asked of it.
-#[derive(Drop)]
+#[derive(Clone, Copy)]
 pub struct Layout {
     pub axes: [Axis; Limits::RANK],
     pub letter_count: usize,

@@ -2,7 +2,7 @@ ghost use Rattle.std.specs.Prelude.{◌≡◌};
 ghost use Rattle.limits.specs.Limits.{limits};
 
 // The limits of the rules, one set of named values for both engines and the program.
-#[derive(Drop)]
+#[derive(Clone, Copy)]
 pub struct Limits {
     pub rank: usize,
     pub extent: u32,

@@ -1,2 +1,4 @@
 // Little-endian numbers in a job file's bytes.
+#![tactic(auto)]
+
 pub mod numbers;

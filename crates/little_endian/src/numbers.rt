@@ -3,7 +3,7 @@ ghost use Rattle.words.specs.Words.{signed};
 ghost use Rattle.little_endian.specs.Bytes.{has, little, numbers};
 
 // A place in a job file.
-#[derive(Drop)]
+#[derive(Clone, Copy)]
 pub struct Cursor {
     pub at: usize,
 }

@@ -2,7 +2,7 @@ ghost use Rattle.std.specs.Prelude.{◌≡◌};
 ghost use Rattle.marks.specs.Marks.{kind_of, is_layout, word_width, is_go};
 
 // A record's kind, with the letter of its tensor.
-#[derive(Drop)]
+#[derive(Clone, Copy)]
 pub enum Kind {
     Layout(u8),
     Words(u8),

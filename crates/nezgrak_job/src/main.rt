@@ -1,4 +1,6 @@
 // nezgrak_job [FILE]: prints the answer to the job file FILE, or to standard input where there is no argument.
+#![tactic(auto)]
+
 ghost use Rattle.std.specs.Prelude.{◌+◌, ◌≤◌, length};
 ghost use Rattle.io.specs.Counts.{IsPrefixLen};
 
@@ -6,7 +8,7 @@ use libc::{STDERR_FILENO, STDIN_FILENO, STDOUT_FILENO};
 use limits::limits::Limits;
 
 // How many bytes of a file were put in a buffer, and whether a read failed.
-#[derive(Drop)]
+#[derive(Clone, Copy)]
 struct Loaded {
     bytes: usize,
     failed: bool,

@@ -9,7 +9,7 @@ use super::offsets::Offsets;
 use groups::groups::Group;
 
 // A group's first label, which runs fastest: from one count to the next is a step, `len` counts on end.
-#[derive(Drop)]
+#[derive(Clone, Copy)]
 pub struct FirstLabel {
     pub step: Offsets,
     pub len: u32,

@@ -12,7 +12,7 @@ use contraction::contraction::Contraction;
 use groups::groups::{Dim, Group};
 
 // For each tensor an address, or how far one moves: 64-bit address words that wrap.
-#[derive(Drop)]
+#[derive(Clone, Copy)]
 pub struct Offsets {
     pub words: [u64; Contraction::TENSORS],
 }

@@ -10,7 +10,7 @@ use groups::groups::{Groups, groups_of};
 use offsets::offsets::Offsets;
 
 // What tiles walk: the four groups, folded, and where each tensor begins.
-#[derive(Drop)]
+#[derive(Clone, Copy)]
 pub struct Plan {
     pub groups: Groups,
     pub base: Offsets,

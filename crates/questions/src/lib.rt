@@ -1,2 +1,4 @@
 // Questions 1 to 9 about a contraction, in their order.
+#![tactic(auto)]
+
 pub mod questions;

@@ -16,7 +16,7 @@ use points::label_questions::{extents_agree, letters_same, points_fit};
 use tensor_answers::tensor_answers::{Asked, ask};
 
 // The number of the first of questions 1 to 9 that fails, or 0; where it is 0, the lists of the tensors' axes, which stand first as in `Asked`.
-#[derive(Drop)]
+#[derive(Clone, Copy)]
 pub struct Listed {
     pub lists: Operands,
     pub number: u32,

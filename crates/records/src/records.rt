@@ -7,14 +7,14 @@ use little_endian::numbers::{Cursor, four_bytes, two_bytes};
 use marks::marks::{is_layout, kind_of, word_width};
 
 // Where a layout's letters begin, and its rank.
-#[derive(Drop)]
+#[derive(Clone, Copy)]
 pub struct LayoutPart {
     pub at: usize,
     pub rank: usize,
 }
 
 // Where a tensor's words begin, how many there are, and the bytes of each.
-#[derive(Drop)]
+#[derive(Clone, Copy)]
 pub struct WordsPart {
     pub at: usize,
     pub count: usize,
@@ -22,26 +22,26 @@ pub struct WordsPart {
 }
 
 // A tensor's two records.
-#[derive(Drop)]
+#[derive(Clone, Copy)]
 pub struct TensorParts {
     pub layout: LayoutPart,
     pub words: WordsPart,
 }
 
 // What reading finds: the record and where the next begins, or the number that refuses the file.
-#[derive(Drop)]
+#[derive(Clone, Copy)]
 pub enum LayoutRead {
     Got { part: LayoutPart, next: Cursor },
     Refused(u32),
 }
 
-#[derive(Drop)]
+#[derive(Clone, Copy)]
 pub enum WordsRead {
     Got { part: WordsPart, next: Cursor },
     Refused(u32),
 }
 
-#[derive(Drop)]
+#[derive(Clone, Copy)]
 pub enum TensorRead {
     Got { parts: TensorParts, next: Cursor },
     Refused(u32),

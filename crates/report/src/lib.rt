@@ -1,2 +1,4 @@
 // The text that answers a job.
+#![tactic(auto)]
+
 pub mod report;

@@ -1,3 +1,5 @@
 // Groups walked in runs of their first label, and A × B summed along the depth group.
+#![tactic(auto)]
+
 pub mod sum;
 pub mod walk;

@@ -9,7 +9,7 @@ use offsets::first_label::FirstLabel;
 use offsets::offsets::Offsets;
 
 // A group and how its counts are walked: in runs of its first label, `len` counts each, one step apart. Where that label has extent 0 there is no run.
-#[derive(Drop)]
+#[derive(Clone, Copy)]
 pub struct Walk {
     pub group: Group,
     pub step: Offsets,

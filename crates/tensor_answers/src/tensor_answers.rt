@@ -9,7 +9,7 @@ use layout::layout::Layout;
 use validity::tensor_questions::{counts_match, rank_fits, sizes_valid, valid_of};
 
 // What tensors answer for themselves: the number of the first of questions 1 to 5 that fails, or 0; and question 8, asked where none of them fails.
-#[derive(Drop)]
+#[derive(Clone, Copy)]
 pub struct Answer {
     pub number: u32,
     pub inside: bool,
@@ -17,7 +17,7 @@ pub struct Answer {
 
 // A tensor's answer, and its axes in a list beside their letters, made where questions 1 to 5 pass. The lists stand first: behind the answer they would be
 // copied with its padding, in words that straddle those just written.
-#[derive(Drop)]
+#[derive(Clone, Copy)]
 pub struct Asked {
     pub lists: Labelled,
     pub answer: Answer,

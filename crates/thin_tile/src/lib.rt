@@ -1,2 +1,4 @@
 // A thin tile, of up to four rows or columns, multiplied without packing.
+#![tactic(auto)]
+
 pub mod thin;

@@ -1,3 +1,5 @@
 // The blocks of a tile: where its rows, its columns and its depth counts lie in a tensor.
+#![tactic(auto)]
+
 pub mod plan_grid;
 pub mod tile_places;

@@ -4,7 +4,7 @@ ghost use Rattle.tiles.specs.Progress.{state_at};
 ghost use Rattle.tiles.specs.Grid.{cut_in, Fits, Counted, TileOf, state_of};
 
 // The sizes of the four groups.
-#[derive(Drop)]
+#[derive(Clone, Copy)]
 pub struct Counts {
     pub batch: u32,
     pub row: u32,
@@ -13,7 +13,7 @@ pub struct Counts {
 }
 
 // Of a tile: how many counts of the row, column and depth group it has, fewer at the edge.
-#[derive(Drop)]
+#[derive(Clone, Copy)]
 pub struct Sizes {
     pub rows: u32,
     pub cols: u32,
@@ -21,7 +21,7 @@ pub struct Sizes {
 }
 
 // The groups cut into tiles.
-#[derive(Drop)]
+#[derive(Clone, Copy)]
 pub struct Grid {
     pub counts: Counts,
     pub sizes: Sizes,
@@ -32,7 +32,7 @@ pub struct Grid {
 }
 
 // Where a tile stands: its batch count, column block, panel and row block.
-#[derive(Drop)]
+#[derive(Clone, Copy)]
 pub struct Tile {
     pub batch: u32,
     pub column: u32,
@@ -41,7 +41,7 @@ pub struct Tile {
 }
 
 // Of an output index: no panel done, some, or all.
-#[derive(Drop)]
+#[derive(Clone, Copy)]
 pub enum State {
     Old,
     Part,

@@ -1,2 +1,4 @@
 // Tiles one after the other.
+#![tactic(auto)]
+
 pub mod run_tiles;

@@ -33,7 +33,7 @@ fn stride_valid(s: i32) -> bool
 }
 
 // What questions 3, 4 and 5 ask of axes: are all letters, all extents and all strides valid?
-#[derive(Drop)]
+#[derive(Clone, Copy)]
 pub struct Valid {
     pub letters: bool,
     pub extents: bool,

@@ -1,4 +1,6 @@
 // 32-bit words and 64-bit address words: the leaves that all other crates compute with.
+#![tactic(auto)]
+
 ghost use Rattle.std.specs.Prelude.{◌≡◌, ◌*◌, ◌%◌, ◌^◌};
 ghost use Rattle.words.specs.Words.{up, down, word_of, signed};
 

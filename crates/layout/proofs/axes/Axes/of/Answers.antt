@@ -3,12 +3,8 @@
 use mathlib.Core.Path.{refl}
 use Rattle.layout.specs.Layout.{axes}
 use Rattle.layout.specs.Listed.{listed}
-use Rattle.layout.proofs.axes.Axes.of.Statement.{statement}
-use Rattle.layout.proofs.axes.Axes.of.Tie as tie
+use Rattle.layout.proofs.axes.Axes.of.Goals as goal
 
-returns : tie.Need-returns
+pub returns : goal.returns
 unfolding listed axes
 returns c = (refl, refl)
-
-pub of_spec : {M : Type 1} → statement M
-of_spec = tie.close (tie.spec returns)
