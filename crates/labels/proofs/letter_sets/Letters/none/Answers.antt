@@ -3,12 +3,8 @@
 use Rattle.std.proofs.Common.{refl, arith}
 use Rattle.labels.specs.LetterSets.{spelled}
 use Rattle.labels.proofs.Bits.{has_none}
-use Rattle.labels.proofs.letter_sets.Letters.none.Statement.{statement}
-use Rattle.labels.proofs.letter_sets.Letters.none.Tie as tie
+use Rattle.labels.proofs.letter_sets.Letters.none.Goals as goal
 
-returns : tie.Need-returns
+pub returns : goal.returns
 unfolding spelled
 returns c = record { spells = refl; sets = λ d h. has_none d; few = omega arith }
-
-pub none_spec : {M : Type 1} → statement M
-none_spec = tie.close (tie.spec returns)

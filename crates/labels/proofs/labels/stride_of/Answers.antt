@@ -16,8 +16,7 @@ use Rattle.layout.proofs.Listed.{length_listed}
 use Rattle.validity.specs.TensorQuestions.{strides_valid}
 use Rattle.labels.specs.Labels.{stride_of}
 use Rattle.labels.proofs.Facts.{strides_bound}
-use Rattle.labels.proofs.labels.stride_of.Statement.{statement}
-use Rattle.labels.proofs.labels.stride_of.Tie as tie
+use Rattle.labels.proofs.labels.stride_of.Goals as goal
 
 -- the sum with one axis more
 step : (c : ℕ) (a : Axis) (xs : List Axis) → T (strides_valid (a ∷ xs)) → length xs ≤ rank_limit
@@ -34,73 +33,28 @@ step c a xs t few =
     go true h k = word_add a.stride (stride_of c xs) h k
     go false h k = word_add (pos 0) (stride_of c xs) (omega arith) k
 
-abbrev invariant-loop : tie.invariant-loop
-invariant-loop c x i₀ sum₀ i sum = (i ≤ i₀) × (sum ≡ word_of 64 (stride_of c (from no_axis x.items i₀ i)))
+pub loop-i-init : goal.loop-i-init
+loop-i-init c = (omega arith, rw (from_end no_axis c.args.x.items c.args.x.count))
 
-abbrev decreases-loop : tie.decreases-loop
-decreases-loop c x i₀ sum₀ i sum = i
-
-loop-holds : tie.Need-loop-init invariant-loop decreases-loop
-loop-holds c = (omega arith, rw (from_end no_axis c.args.t1.items c.args.t1.count))
-
-sub-i : tie.Need-overflow-sub-i invariant-loop decreases-loop
-sub-i c = omega arith
-
-mul-a : tie.Need-overflow-mul-a invariant-loop decreases-loop
-mul-a c = omega arith
-
-element-copy-out-a : tie.Need-element-copy-out-a invariant-loop decreases-loop
-element-copy-out-a c = omega arith
-
-address-word-requires : tie.Need-address-word-requires invariant-loop decreases-loop
-address-word-requires c κs = search rules
-
-pick-word-requires : tie.Need-pick-word-requires invariant-loop decreases-loop
-pick-word-requires c κs = search rules
-
-wrapping-add-u64-requires : tie.Need-wrapping-add-u64-requires invariant-loop decreases-loop
-wrapping-add-u64-requires c κs = search rules
-
-loop-less : tie.Need-loop-smaller invariant-loop decreases-loop
-loop-less c = omega arith
-
-loop-again : tie.Need-loop-preserved invariant-loop decreases-loop
+pub loop-i-preserved : goal.loop-i-preserved
 unfolding listed strides_valid
-loop-again c =
-    let l = c.before.before.before.before.before.before.before.loop in
-    let s = c.before.before.before.before.before.before.before.before in
-    let x = s.args.t1 in
+loop-i-preserved c =
+    let l = c.loop-i in
+    let x = c.args.x in
     let a = get_or x.items (l.i - 1) no_axis in
     let rest = from no_axis x.items x.count l.i in
     let next : from no_axis x.items x.count (l.i - 1) ≡ a ∷ rest = from_before no_axis x.items x.count l.i (omega arith) (omega arith) in
-    let valid = every_drop (λ a. leb (nat_abs a.stride) stride_limit) (l.i - 1) (listed x) s.requires.strides in
-    let few : length rest ≤ rank_limit = omega (arith, length-drop l.i (listed x), length_listed x, s.requires.few) in
-    let same = to_z-of_z w32 a.stride (record { sfits = c.before.before.before.before.struct_told.given.1.1.0.1 }) in (
+    let valid = every_drop (λ a. leb (nat_abs a.stride) stride_limit) (l.i - 1) (listed x) c.requires.strides in
+    let few : length rest ≤ rank_limit = omega (arith, length-drop l.i (listed x), length_listed x, c.requires.few) in
+    let same = to_z-of_z w32 a.stride (record { sfits = c.struct_told-1.given.1.1.0.1 }) in (
       omega arith,
-      rw (c.wrapping-add-u64.ensures, c.before.pick_word.ensures, c.before.before.before.address_word.ensures, same, l.invariant.1, next)
-          (step s.args.c a rest (rw next at valid) few),
+      rw (c.wrapping_add_u64-sum.ensures.value, c.pick_word.ensures, c.address_word-word.ensures, same, l.invariant.1, next)
+          (step c.args.c a rest (rw next at valid) few),
     )
 
-returns : tie.Need-returns invariant-loop decreases-loop
+pub returns : goal.returns
 unfolding listed
 returns c =
-    let l = c.before.loop in
+    let l = c.loop-i in
     let z : l.i ≡ 0 = omega arith in
     rw (l.invariant.1, z)
-
-pub stride_of_spec : {M : Type 1} → statement M
-stride_of_spec =
-    tie.close
-    (tie.spec
-    invariant-loop
-    decreases-loop
-    loop-holds
-    sub-i
-    mul-a
-    element-copy-out-a
-    address-word-requires
-    pick-word-requires
-    wrapping-add-u64-requires
-    loop-less
-    loop-again
-    returns)
