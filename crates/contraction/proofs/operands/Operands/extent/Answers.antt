@@ -11,20 +11,7 @@ use Rattle.contraction.specs.declared.operands.Operands.{Operands}
 use Rattle.contraction.specs.Operands.{A, B, D, together}
 use Rattle.contraction.specs.TensorAxes.{shape_of, Gathered}
 use Rattle.contraction.proofs.Again.{extent_again}
-use Rattle.contraction.proofs.operands.Operands.extent.Statement.{statement}
-use Rattle.contraction.proofs.operands.Operands.extent.Tie as tie
-
-extent-in-c-requires : tie.Need-extent-in-c-requires
-extent-in-c-requires c κs = c.requires
-
-extent-or-requires : tie.Need-extent-or-requires
-extent-or-requires c κs = (c.before.requires.each B).checked.few
-
-extent-or-requires-2 : tie.Need-extent-or-requires-2
-extent-or-requires-2 c κs = (c.before.before.requires.each A).checked.few
-
-extent-or-requires-3 : tie.Need-extent-or-requires-3
-extent-or-requires-3 c κs = (c.before.before.before.requires.each D).checked.few
+use Rattle.contraction.proofs.operands.Operands.extent.Goals as goal
 
 -- where C is not named, D stands behind the others once more
 behind : (x : Operands) (n r : ℕ) → Gathered x
@@ -46,11 +33,19 @@ behind x n r g f = go x.named refl f
         ∙ rw (g.stands e, ← append_assoc (listed x.a.axes) (listed x.b.axes) [], ← append_assoc (listed x.a.axes) (listed x.b.axes) d)
         (extent_again n d (listed x.a.axes ++ listed x.b.axes))
 
-returns : tie.Need-returns
-returns c =
-    let s = c.before.before.before.before in
-    behind s.args.self s.args.c c.extent-or3.result s.requires
-    (λ ys e. c.extent-or3.ensures _ (c.before.extent-or2.ensures _ (c.before.before.extent-or.ensures ys (c.before.before.before.extent-in-c.ensures ∙ e))))
+pub extent_in_c-requires : goal.extent_in_c-requires
+extent_in_c-requires c = c.requires
 
-pub extent_spec : {M : Type 1} → statement M
-extent_spec = tie.close (tie.spec extent-in-c-requires extent-or-requires extent-or-requires-2 extent-or-requires-3 returns)
+pub extent_or-requires : goal.extent_or-requires
+extent_or-requires c = (c.requires.each B).checked.few
+
+pub extent_or-requires-2 : goal.extent_or-requires-2
+extent_or-requires-2 c = (c.requires.each A).checked.few
+
+pub extent_or-requires-3 : goal.extent_or-requires-3
+extent_or-requires-3 c = (c.requires.each D).checked.few
+
+pub returns : goal.returns
+returns c =
+    behind c.args.self c.args.c c.extent_or-3.result c.requires
+    (λ ys e. c.extent_or-3.ensures _ (c.extent_or-2.ensures _ (c.extent_or.ensures ys (c.extent_in_c.ensures ∙ e))))
