@@ -15,12 +15,8 @@ use Rattle.groups.specs.Groups.{Label, size}
 use Rattle.groups.specs.Held.{as_label, no_dim, labels_in}
 use Rattle.groups.specs.Foldable.{points_in, Foldable}
 use Rattle.groups.proofs.Points.{size_points}
-use Rattle.groups.proofs.groups.Group.size_from.Statement.{statement}
-use Rattle.groups.proofs.groups.Group.size_from.Tie as tie
-
--- the size of the labels from place i on
-abbrev left : List Dim → ℕ → ℕ → ℕ
-left dims count i = size (map as_label (from no_dim dims count i))
+use Rattle.groups.proofs.groups.Group.size_from.Invariants.{left}
+use Rattle.groups.proofs.groups.Group.size_from.Goals as goal
 
 -- a turn of the loop
 grown : (dims : List Dim) (count i product : ℕ) → 0 < i → i ≤ count → product ≡ left dims count i → (get_or dims (i - 1) no_dim).extent * product ≡ left dims count (i - 1)
@@ -47,59 +43,24 @@ points_drop (suc i) (l ∷ g) = omega (arith, points_drop i g, mul-le-mul_right 
 left_fits : (g : Group) → Foldable (labels_in g) → (i : ℕ) → left g.dims g.count i ≤ product_limit
 left_fits g f i = omega (arith, f.points, points_drop i (labels_in g), size_points (drop i (labels_in g)), ap size (drop_labels g i))
 
-abbrev invariant-loop : tie.invariant-loop
-invariant-loop start self product₀ i₀ product i = (start ≤ i) × (i ≤ i₀) × (product ≡ left self.dims i₀ i)
+pub loop-i-init : goal.loop-i-init
+loop-i-init c = (c.requires.1, omega arith, sym (left_end c.args.self.dims c.args.self.count))
 
-abbrev decreases-loop : tie.decreases-loop
-decreases-loop start self product₀ i₀ product i = i
+pub overflow_mul-product : goal.overflow_mul-product
+overflow_mul-product c =
+    let l = c.loop-i in
+    let e : (get_or c.args.self.dims (l.i - 1) no_dim).extent * l.product ≡ left c.args.self.dims c.args.self.count (l.i - 1) =
+    grown c.args.self.dims c.args.self.count l.i l.product (omega arith) (omega arith) l.invariant.2 in
+    omega (arith, e, left_fits c.args.self c.requires.2 (l.i - 1))
 
-loop-holds : tie.Need-loop-init invariant-loop decreases-loop
-loop-holds c = (c.requires.1, omega arith, sym (left_end c.args.t1.dims c.args.t1.count))
+pub loop-i-preserved : goal.loop-i-preserved
+loop-i-preserved c =
+    let l = c.loop-i in
+    (omega arith, omega arith, grown c.args.self.dims c.args.self.count l.i l.product (omega arith) (omega arith) l.invariant.2)
 
-sub-i : tie.Need-overflow-sub-i invariant-loop decreases-loop
-sub-i c = omega arith
-
-mul-l : tie.Need-overflow-mul-l invariant-loop decreases-loop
-mul-l c = omega arith
-
-element-copy-out-l : tie.Need-element-copy-out-l invariant-loop decreases-loop
-element-copy-out-l c = omega arith
-
-mul-product : tie.Need-overflow-mul-product invariant-loop decreases-loop
-mul-product c =
-    let s = c.before.before.before.before in
-    let l = c.before.before.before.loop in
-    let e : (get_or s.args.t1.dims (l.i - 1) no_dim).extent * l.product ≡ left s.args.t1.dims s.args.t1.count (l.i - 1) =
-    grown s.args.t1.dims s.args.t1.count l.i l.product (omega arith) (omega arith) l.invariant.2 in
-    omega (arith, e, left_fits s.args.t1 s.requires.2 (l.i - 1))
-
-loop-less : tie.Need-loop-smaller invariant-loop decreases-loop
-loop-less c = omega arith
-
-loop-again : tie.Need-loop-preserved invariant-loop decreases-loop
-loop-again c =
-    let s = c.before.before.before.before in
-    let l = c.before.before.before.loop in
-    (omega arith, omega arith, grown s.args.t1.dims s.args.t1.count l.i l.product (omega arith) (omega arith) l.invariant.2)
-
-returns : tie.Need-returns invariant-loop decreases-loop
+pub returns : goal.returns
 returns c =
-    let s = c.before.before.args in
-    let l = c.before.loop in
+    let s = c.args in
+    let l = c.loop-i in
     let z : l.i ≡ s.start = omega arith in
-    l.invariant.2 ∙ ap (left s.t1.dims s.t1.count) z ∙ ap size (drop_labels s.t1 s.start)
-
-pub size_from_spec : {M : Type 1} → statement M
-size_from_spec =
-    tie.close
-    (tie.spec
-    invariant-loop
-    decreases-loop
-    loop-holds
-    sub-i
-    mul-l
-    element-copy-out-l
-    mul-product
-    loop-less
-    loop-again
-    returns)
+    l.invariant.2 ∙ ap (left s.self.dims s.self.count) z ∙ ap size (drop_labels s.self s.start)

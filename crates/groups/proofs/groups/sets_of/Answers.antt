@@ -4,10 +4,9 @@ use Prim.Native.Nat.{◌-◌, ◌^◌, ◌<◌}
 use native.Mathlib.Omega.{arith}
 use lib.Bits.{bit_and, bit_or, and_le_l, or_lt}
 use Rattle.labels.proofs.Bits.{has_and, has_or, has_not}
-use Rattle.groups.proofs.groups.sets_of.Statement.{statement}
-use Rattle.groups.proofs.groups.sets_of.Tie as tie
+use Rattle.groups.proofs.groups.sets_of.Goals as goal
 
-returns : tie.Need-returns
+pub returns : goal.returns
 returns c =
     let a = c.args.a in
     let b = c.args.b in
@@ -22,6 +21,3 @@ returns c =
       row = λ k. rw (has_and d ((2 ^ 64 - 1) - bit_or three two) k, has_not (bit_or three two) k (or_lt 64 three two fits-three fits-two), has_or three two k);
       depth = λ k. has_not d k c.ranges.d.fits;
     }
-
-pub sets_of_spec : {M : Type 1} → statement M
-sets_of_spec = tie.close (tie.spec returns)

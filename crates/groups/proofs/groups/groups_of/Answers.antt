@@ -1,0 +1,14 @@
+-- `groups_of` meets its contract: of the letters of all tensors, each set has just those of its group.
+-- Assumes nothing.
+use borrow.Author.Rules.{rules}
+use Rattle.contraction.specs.TensorAxes.{labelled_in}
+use Rattle.groups.proofs.Sets.{kept_group}
+use Rattle.groups.proofs.groups.groups_of.Goals as goal
+
+pub returns : goal.returns
+returns c =
+    let x = c.args.x in
+    record {
+      labels =
+          kept_group x c.requires (λ o. (labelled_in x o).letters) (λ o. (c.requires.each o).spells) c.sets_of.result c.sets_of.ensures;
+    }
