@@ -11,8 +11,7 @@ use Rattle.groups.specs.Held.{as_label, no_dim, labels_in}
 use Rattle.offsets.specs.declared.offsets.Offsets.{Offsets}
 use Rattle.offsets.specs.Offsets.{Words}
 use Rattle.offsets.specs.FirstLabel.{first_label, FirstLabelOf}
-use Rattle.offsets.proofs.first_label.FirstLabel.of.Statement.{statement}
-use Rattle.offsets.proofs.first_label.FirstLabel.of.Tie as tie
+use Rattle.offsets.proofs.first_label.FirstLabel.of.Goals as goal
 
 no_label : (g : Group) → g.count ≡ 0 → labels_in g ≡ []
 unfolding labels_in
@@ -47,23 +46,16 @@ along g l s e w =
       step = λ o. w.each o ∙ once (by_tensor l.strides o) ∙ sym (ap (λ (x : List Label). word_of 64 ((first_label x).stride o)) e);
     }
 
-none-requires : tie.Need-none-requires
-none-requires c κs = tt
+pub none-still-requires : goal.none-still-requires
+none-still-requires c = tt
 
-returns : tie.Need-returns
-returns c = still c.before.before.args.t1 c.none.result (omega arith) c.none.ensures
+pub returns-then-g-eq0 : goal.returns-then-g-eq0
+returns-then-g-eq0 c = still c.args.g c.none-still.result (omega arith) c.none-still.ensures
 
-element-copy-out-l : tie.Need-element-copy-out-l
-element-copy-out-l c = search rules
+pub along-step-requires : goal.along-step-requires
+along-step-requires c = tt
 
-along-requires : tie.Need-along-requires
-along-requires c κs = tt
-
-returns-2 : tie.Need-returns-2
-returns-2 c =
-    let s = c.before.before.before in
-    let n : 0 < s.args.t1.count = omega arith in
-    along (labels_in s.args.t1) (get_or s.args.t1.dims 0 no_dim) c.along.result (first s.args.t1 n) c.along.ensures
-
-pub of_spec : {M : Type 1} → statement M
-of_spec = tie.close (tie.spec none-requires returns element-copy-out-l along-requires returns-2)
+pub returns : goal.returns
+returns c =
+    let n : 0 < c.args.g.count = omega arith in
+    along (labels_in c.args.g) (get_or c.args.g.dims 0 no_dim) c.along-step.result (first c.args.g n) c.along-step.ensures
