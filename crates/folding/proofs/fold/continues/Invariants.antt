@@ -1,0 +1,29 @@
+-- `continues` meets its contract. The invariant: what was asked of the first o tensors, and `follows` of those from o on, is `follows` of all. The measure is
+-- how many are left.
+-- Assumes nothing.
+use mathlib.Core.Path.{◌≡◌, refl, ap, sym, ◌∙◌}
+use mathlib.Core.Bool.{Bool, ◌&&◌, and-true, and_assoc}
+use mathlib.Core.List.{List}
+use Prim.Native.Nat.{ℕ, suc, ◌+◌, ◌-◌, ◌≤◌, ◌<◌}
+use native.Mathlib.Numerals.{add-one}
+use native.Mathlib.Omega.{arith}
+use lib.ListN.{drop}
+use lib.Seq.{drop-cons}
+use Rattle.words.specs.Sums.{every}
+use Rattle.contraction.specs.Operands.{Operand, D, operands}
+use Rattle.contraction.specs.TensorPlaces.{tensor_count, operand_at}
+use Rattle.contraction.proofs.TensorPlaces.{at_place}
+use Rattle.groups.specs.Groups.{Label}
+use Rattle.groups.specs.Held.{as_label}
+use Rattle.folding.specs.Fold.{follows, joins}
+use Rattle.folding.proofs.fold.continues.Given as goal
+
+-- what is left to ask from tensor o on
+abbrev pub asked_from : Label → Label → ℕ → Bool
+asked_from p l o = every (follows p l) (drop o operands)
+
+abbrev pub invariant-loop-o : goal.invariant-loop-o
+invariant-loop-o l = (l.o ≤ tensor_count) × ((l.all && asked_from (as_label l.p) (as_label l.l) l.o) ≡ joins (as_label l.p) (as_label l.l))
+
+abbrev pub decreases-loop-o : goal.decreases-loop-o
+decreases-loop-o l = tensor_count - l.o
