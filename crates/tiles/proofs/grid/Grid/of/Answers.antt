@@ -1,0 +1,56 @@
+-- `of` meets its contract: `blocks_in` gives the block counts of the cut, and the branch the panels, at least one. The counts and the products
+-- are small enough, as the cut is in its limits.
+use mathlib.Core.Path.{◌≡◌, refl}
+use Prim.Native.Nat.{ℕ, ◌*◌, ◌≤◌}
+use native.Mathlib.Omega.{arith}
+use Rattle.limits.specs.Limits.{product_limit}
+use Rattle.tiles.specs.Cut.{Cut, cut_by, MB, NB, KB, total}
+use Rattle.tiles.specs.Grid.{Fits}
+use Rattle.tiles.proofs.Sizes.{M_small, N_small, K_small, columns_small, strips_small, sum_of_small}
+use Rattle.tiles.proofs.grid.Grid.of.Goals as goal
+use Rattle.tiles.proofs.grid.Grid.of.Goals.{then-cut-eq0, else-cut-eq0}
+
+-- the products of numbers that are those of the cut
+products : {G : Cut} {r c p : ℕ} → Fits G → (r ≡ MB G) × (c ≡ NB G) × (p ≡ KB G)
+    → (G.H * c ≤ product_limit) × (G.H * c * p ≤ product_limit) × (G.H * c * p * r ≤ product_limit) × (G.H * c * p * r ≡ total G)
+unfolding total
+products f (er, ec, ep) = rw (er, ec, ep) (columns_small f, strips_small f, sum_of_small f, refl)
+
+pub blocks_in-row_blocks-requires : goal.blocks_in-row_blocks-requires
+blocks_in-row_blocks-requires c = (c.requires.rows_pos, omega (arith, c.requires.rows_few, M_small c.requires))
+
+pub blocks_in-column_blocks-requires : goal.blocks_in-column_blocks-requires
+blocks_in-column_blocks-requires c = let f = c.requires in (f.cols_pos, omega (arith, f.cols_few, N_small f))
+
+pub blocks_in-cut-requires : goal.blocks_in-cut-requires
+blocks_in-cut-requires c = let f = c.requires in (f.depth_pos, omega (arith, f.depth_few, K_small f))
+
+pub overflow_mul-total-2 : goal.overflow_mul-total-2
+unfolding MB NB KB
+overflow_mul-total-2 c =
+    let e = c.blocks_in-cut.ensures in
+    let p : c.if-cut-eq0.panels ≡ KB (cut_by c.args.counts c.args.sizes) = elim c.if-cut-eq0.branch [ then-cut-eq0 w ↦ omega (arith, e) | else-cut-eq0 w ↦ omega (arith, e) ] in
+    omega (arith, (products c.requires (c.blocks_in-row_blocks.ensures, c.blocks_in-column_blocks.ensures, p)).1)
+
+pub overflow_mul-total-3 : goal.overflow_mul-total-3
+unfolding MB NB KB
+overflow_mul-total-3 c =
+    let e = c.blocks_in-cut.ensures in
+    let p : c.if-cut-eq0.panels ≡ KB (cut_by c.args.counts c.args.sizes) = elim c.if-cut-eq0.branch [ then-cut-eq0 w ↦ omega (arith, e) | else-cut-eq0 w ↦ omega (arith, e) ] in
+    omega (arith, (products c.requires (c.blocks_in-row_blocks.ensures, c.blocks_in-column_blocks.ensures, p)).2)
+
+pub returns : goal.returns
+unfolding MB NB KB
+returns c =
+    let f = c.requires in
+    let e = c.blocks_in-cut.ensures in
+    let p : c.if-cut-eq0.panels ≡ KB (cut_by c.args.counts c.args.sizes) = elim c.if-cut-eq0.branch [ then-cut-eq0 w ↦ omega (arith, e) | else-cut-eq0 w ↦ omega (arith, e) ] in (
+      refl,
+      record {
+        fits = f;
+        row_blocks = c.blocks_in-row_blocks.ensures;
+        column_blocks = c.blocks_in-column_blocks.ensures;
+        panels = p;
+        total = (products f (c.blocks_in-row_blocks.ensures, c.blocks_in-column_blocks.ensures, p)).3;
+      },
+    )
