@@ -6,7 +6,7 @@ use mathlib.Core.Bool.{and-eq-true_iff}
 use Rattle.words.specs.Lists.{first_of}
 use Rattle.words.specs.Words.{word}
 use Rattle.words.proofs.Modular.{word_add_left, word_add_right}
-use Rattle.words.proofs.Tabulate.{length_firstOf, get_or_first_of}
+use Rattle.words.proofs.Tabulate.{length_first_of, get_or_first_of}
 use Rattle.limits.specs.Limits.{block_limit}
 use Rattle.block.specs.Block.{Step, even, scattered, steps, step_from, classify, block_step}
 use Rattle.block.specs.Places.{place_of, place_after, Stepped}
@@ -34,7 +34,7 @@ unfolding block_step
 offset_at s offsets count e few i h =
     let all : min count block_limit ≡ count = omega arith in
     let z : even s ≡ classify (first_of count 0 offsets) = rw all at e in
-    sym (get_or_first_of count 0 offsets (i + 1) h) ∙ even_at s (first_of count 0 offsets) z i (omega (arith, length_firstOf count 0 offsets))
+    sym (get_or_first_of count 0 offsets (i + 1) h) ∙ even_at s (first_of count 0 offsets) z i (omega (arith, length_first_of count 0 offsets))
     ∙ ap (λ (x : ℕ). word 64 (x + s)) (get_or_first_of count 0 offsets i (omega arith))
 
 pub next_reaches : (from : ℕ) (offsets : List ℕ) (count : ℕ) (s : Step) → Stepped count offsets s → count ≤ block_limit → (i : ℕ) → i + 1 < count

@@ -7,7 +7,7 @@ use Rattle.words.specs.Lists.{first_of}
 use Rattle.words.specs.Words.{word}
 use Rattle.words.specs.Loops.{Within}
 use Rattle.words.proofs.Modular.{word_add_left, word_add_right}
-use Rattle.words.proofs.Tabulate.{from, from_end, from_next, length_firstOf, get_or_first_of}
+use Rattle.words.proofs.Tabulate.{from, from_end, from_next, length_first_of, get_or_first_of}
 use Rattle.limits.specs.Limits.{block_limit}
 use Rattle.block.specs.Block.{Step, even, scattered, step_from, classify, block_step}
 use Rattle.words.specs.Stepped.{stepped}
@@ -25,13 +25,13 @@ module _ (offsets : List ℕ) (n : ℕ) (few : n ≤ block_limit) where
 
   pub past_end : (i : ℕ) → n ≤ i → longest_from n offsets i ≡ 0
   unfolding longest
-  past_end i h = rw (from_is i, drop_of_length-le (first_of n 0 offsets) {i = i} (omega (arith, length_firstOf n 0 offsets)))
+  past_end i h = rw (from_is i, drop_of_length-le (first_of n 0 offsets) {i = i} (omega (arith, length_first_of n 0 offsets)))
 
   pub from_le : (i : ℕ) → i < n → i + longest_from n offsets i ≤ n
-  from_le i h = rw (from_is i) (omega (arith, longest_le (from 0 offsets n i), length-drop i (first_of n 0 offsets), length_firstOf n 0 offsets))
+  from_le i h = rw (from_is i) (omega (arith, longest_le (from 0 offsets n i), length-drop i (first_of n 0 offsets), length_first_of n 0 offsets))
 
   pub from_few : (i : ℕ) → longest_from n offsets i ≤ n
-  from_few i = rw (from_is i) (omega (arith, longest_le (from 0 offsets n i), length-drop i (first_of n 0 offsets), length_firstOf n 0 offsets))
+  from_few i = rw (from_is i) (omega (arith, longest_le (from 0 offsets n i), length-drop i (first_of n 0 offsets), length_first_of n 0 offsets))
 
   pub from_some : (i : ℕ) → i < n → 0 < longest_from n offsets i
   from_some i h = rw (from_is i, from_next 0 offsets n i h) (longest_some (get_or offsets i 0) (from 0 offsets n (i + 1)))
@@ -158,12 +158,12 @@ module _ (offsets : List ℕ) (n : ℕ) (few : n ≤ block_limit) where
       go (suc (suc m)) h = absurd (omega arith)
 
   pub step_scattered : longest_from n offsets 0 < n → scattered ≡ block_step n offsets
-  step_scattered h = rw step_whole (all_scattered (first_of n 0 offsets) (omega (arith, length_firstOf n 0 offsets, from_is offsets n few 0)))
+  step_scattered h = rw step_whole (all_scattered (first_of n 0 offsets) (omega (arith, length_first_of n 0 offsets, from_is offsets n few 0)))
 
   pub step_even : 2 ≤ n → n ≤ longest_from n offsets 0 → even (step_from (get_or offsets 0 0) (get_or offsets 1 0)) ≡ block_step n offsets
   step_even h k =
       let two : first_of n 0 offsets ≡ get_or offsets 0 0 ∷ get_or offsets 1 0 ∷ from 0 offsets n 2 = two_left offsets n few 0 (omega arith) in
-      let all : length (first_of n 0 offsets) ≤ longest (first_of n 0 offsets) = omega (arith, length_firstOf n 0 offsets, from_is offsets n few 0) in
+      let all : length (first_of n 0 offsets) ≤ longest (first_of n 0 offsets) = omega (arith, length_first_of n 0 offsets, from_is offsets n few 0) in
       rw (step_whole, two) (all_even (get_or offsets 0 0) (get_or offsets 1 0) (from 0 offsets n 2) (rw two at all))
 
 -- a count above the limit is read as the limit

@@ -49,18 +49,18 @@ module _ (w : Label → ℕ) (scales : Scales w) where
         offsets = λ n. rw (mod_mul n p.extent l.extent, scales.1 p l, scales.0 p l t, ← div-div-eq-div-mul n p.extent l.extent) (omega arith);
       }
 
-  alike_joinFrom : (g : List Label) (p : Label) → Alike w (join_from p g) (p ∷ g)
-  alike_joinFrom [] p = alike_refl
-  alike_joinFrom (l ∷ g) p = go (joins p l) (λ t. t) (alike_joinFrom g (join p l)) (alike_joinFrom g l)
+  alike_join_from : (g : List Label) (p : Label) → Alike w (join_from p g) (p ∷ g)
+  alike_join_from [] p = alike_refl
+  alike_join_from (l ∷ g) p = go (joins p l) (λ t. t) (alike_join_from g (join p l)) (alike_join_from g l)
     where
       go : (b : Bool) → (T b → T (joins p l)) → Alike w (join_from (join p l) g) (join p l ∷ g) → Alike w (join_from l g) (l ∷ g)
           → Alike w (elim b [ true ↦ join_from (join p l) g | false ↦ p ∷ join_from l g ]) (p ∷ l ∷ g)
       go true t e f = alike_trans e (alike_join p l g (t tt))
       go false t e f = alike_cons p f
 
-  alike_joinAll : (g : List Label) → Alike w (join_all g) g
-  alike_joinAll [] = alike_refl
-  alike_joinAll (l ∷ g) = alike_joinFrom g l
+  alike_join_all : (g : List Label) → Alike w (join_all g) g
+  alike_join_all [] = alike_refl
+  alike_join_all (l ∷ g) = alike_join_from g l
 
   alike_one : (l : Label) (g : List Label) → l.extent ≡ 1 → Alike w g (l ∷ g)
   alike_one l g e = record { sizes = rw e (omega arith); offsets = λ n. rw (e, mod-one, div-one) (omega arith) }
@@ -74,7 +74,7 @@ module _ (w : Label → ℕ) (scales : Scales w) where
       go false t e = alike_cons l e
 
   pub fold_alike : (g : List Label) → Alike w (fold g) g
-  fold_alike g = alike_trans (alike_joinAll _) (alike_keep g)
+  fold_alike g = alike_trans (alike_join_all _) (alike_keep g)
 
 eq_ℤ→eq : (a b : ℤ) → T (eq_ℤ a b) → a ≡ b
 eq_ℤ→eq (pos m) (pos n) t = ap pos (eqb→eq m n t)

@@ -7,7 +7,7 @@ use lib.ListN.{length, get_or, set, length-map}
 use lib.IntN.{ℤ}
 use Rattle.words.specs.Lists.{first_of}
 use Rattle.words.specs.Words.{word_of, signed}
-use Rattle.words.proofs.Tabulate.{first_of_suc, first_of_push, length_firstOf}
+use Rattle.words.proofs.Tabulate.{first_of_suc, first_of_push, length_first_of}
 use Rattle.layout.specs.Listed.{listed}
 use Rattle.labels.specs.Labels.{stride_of, extent_of}
 use Rattle.labels.proofs.Facts.{signed_stride}
@@ -27,7 +27,7 @@ holding dims n = record { dims = dims; count = n }
 -- as many labels as are counted
 pub labels_count : (g : Group) → length (labels_in g) ≡ g.count
 unfolding labels_in
-labels_count g = length-map (first_of g.count no_dim g.dims) as_label ∙ length_firstOf g.count no_dim g.dims
+labels_count g = length-map (first_of g.count no_dim g.dims) as_label ∙ length_first_of g.count no_dim g.dims
 
 -- with one more stored behind them
 pub labels_push : (dims : List Dim) (n : ℕ) (l : Dim) → n < length dims → labels_in (holding (set dims n l) (n + 1)) ≡ labels_in (holding dims n) ++ as_label l ∷ []

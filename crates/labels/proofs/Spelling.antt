@@ -7,7 +7,7 @@ use Rattle.words.specs.Lists.{first_of, member, keep, cons_if, distinct}
 use Rattle.words.specs.Sums.{every}
 use Rattle.words.proofs.Lists.{T_true, eqb-true, eqb_ne, eqb_self, eqb_flip, keep_append}
 use Rattle.words.proofs.Sums.{and_split, every_drop}
-use Rattle.words.proofs.Tabulate.{length_firstOf, first_of_suc, from, from_next}
+use Rattle.words.proofs.Tabulate.{length_first_of, first_of_suc, from, from_next}
 use Rattle.layout.specs.declared.layout.Axis.{Axis}
 use Rattle.layout.specs.declared.axes.Axes.{Axes}
 use Rattle.layout.specs.Layout.{no_axis, letters_of}
@@ -105,4 +105,4 @@ spells_itself x cs s = subst (Spells x) (sym s.spells) s
 
 pub spells_count : (x : Letters) (cs : List ℕ) → Spells x cs → x.count ≡ length cs
 unfolding spelled
-spells_count x cs s = sym (length_firstOf x.count 0 x.letters) ∙ ap length s.spells
+spells_count x cs s = sym (length_first_of x.count 0 x.letters) ∙ ap length s.spells

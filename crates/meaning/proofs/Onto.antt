@@ -41,11 +41,11 @@ pub count_of_lt : (g : List Label) (ρ : ℕ → ℕ) → Within g ρ → count_
 count_of_lt [] ρ h = omega arith
 count_of_lt (l ∷ g) ρ h = omega (arith, mul-le-mul_left l.extent (count_of_lt g ρ h.1))
 
-pub at_countOf : (g : List Label) (ρ σ : ℕ → ℕ) → Distinct g → Within g ρ → All (λ l. at g (count_of g ρ) σ l.letter ≡ ρ l.letter) g
-at_countOf [] ρ σ d h = tt
-at_countOf (l ∷ g) ρ σ d h =
-    rw (lowest l.extent (count_of g ρ) h.0, rest l.extent (count_of g ρ) h.0)
-    (rw (eqb_self l.letter), all_imp (λ m p. rw (eqb_flip l.letter m.letter p.0) p.1) g (all_both _ _ g d.0 (at_countOf g ρ σ d.1 h.1)))
+pub at_count_of : (g : List Label) (ρ σ : ℕ → ℕ) → Distinct g → Within g ρ → All (λ l. at g (count_of g ρ) σ l.letter ≡ ρ l.letter) g
+at_count_of [] ρ σ d h = tt
+at_count_of (l ∷ g) ρ σ d h =
+    rw (lowest l.extent (count_of g ρ) h.0)
+    (rw (eqb_self l.letter), all_imp (λ m p. rw (rest l.extent (count_of g ρ) h.0, eqb_flip l.letter m.letter p.0) p.1) g (all_both _ _ g d.0 (at_count_of g ρ σ d.1 h.1)))
 
 -- ---- the counts of an index, of several lists of labels
 module _ (s : Shape) {X : Type 0} (test : X → ℕ → Bool) (ρ : ℕ → ℕ) where
@@ -78,7 +78,7 @@ module _ (s : Shape) {X : Type 0} (test : X → ℕ → Bool) (ρ : ℕ → ℕ)
           → at (labels_where s (test x)) (counts_of x) σ c ≡ ρ c
       go true k e r =
           where_at s (test x) (λ l. at (labels_where s (test x)) (counts_of x) σ l.letter ≡ ρ l.letter)
-          (at_countOf (labels_where s (test x)) ρ σ (where_distinct s (test x)) (within x xs f)) c m k
+          (at_count_of (labels_where s (test x)) ρ σ (where_distinct s (test x)) (within x xs f)) c m k
       go false k e r = where_clear s (test x) (counts_of x) σ c k ∙ r e
 
 -- ---- where question 6 passes

@@ -15,7 +15,7 @@ use Rattle.words.specs.Sums.{product}
 use Rattle.words.specs.Lists.{keep, member}
 use Rattle.words.proofs.Lists.{T_true, all_of, all_imp, all_map}
 use Rattle.words.proofs.Sums.{product_keep, product_map, and_split, every_all}
-use Rattle.words.proofs.Tabulate.{length_firstOf}
+use Rattle.words.proofs.Tabulate.{length_first_of}
 use Rattle.limits.specs.Limits.{rank_limit, base_limit, slice_limit, product_limit, labels_limit}
 use Rattle.layout.specs.declared.layout.Axis.{Axis}
 use Rattle.layout.specs.declared.layout.Layout.{Layout}
@@ -40,7 +40,7 @@ use Rattle.folding.proofs.Folding.{add_to, Folding, fold_start, fold_end, fold_s
 module _ (t : Operand → Layout) (n : Operand → ℕ) (p : AllPassed t n) where
   rank : (o : Operand) → length (axes (t o)) ≤ rank_limit
   unfolding axes rank_fits
-  rank o = omega (arith, leb-true (t o).letter_count rank_limit (p.each.ranks o), length_firstOf (t o).letter_count no_axis (t o).axes)
+  rank o = omega (arith, leb-true (t o).letter_count rank_limit (p.each.ranks o), length_first_of (t o).letter_count no_axis (t o).axes)
 
   small : (c : ℕ) → Small (label (shape t) c)
   unfolding sizes_valid

@@ -45,8 +45,8 @@ module _ {X : Type 0} where
 
   -- ---- the first n items of an array xs, d where it has fewer
 
-  pub length_firstOf : (n : ℕ) (d : X) (xs : List X) → length (first_of n d xs) ≡ n
-  length_firstOf n d xs = length_tabulate n (λ i. get_or xs i d)
+  pub length_first_of : (n : ℕ) (d : X) (xs : List X) → length (first_of n d xs) ≡ n
+  length_first_of n d xs = length_tabulate n (λ i. get_or xs i d)
 
   pub get_or_first_of : (n : ℕ) (d : X) (xs : List X) (i : ℕ) → i < n → get_or (first_of n d xs) i d ≡ get_or xs i d
   get_or_first_of n d xs i h = get_or_tabulate n (λ i. get_or xs i d) i d h
@@ -56,7 +56,7 @@ module _ {X : Type 0} where
 
   -- all items of a list
   pub first_of_all : (d : X) (xs : List X) (n : ℕ) → length xs ≡ n → first_of n d xs ≡ xs
-  first_of_all d xs n e = ext_get_or d _ xs (length_firstOf n d xs ∙ sym e) (λ i h. get_or_first_of n d xs i (omega (arith, length_firstOf n d xs)))
+  first_of_all d xs n e = ext_get_or d _ xs (length_first_of n d xs ∙ sym e) (λ i h. get_or_first_of n d xs i (omega (arith, length_first_of n d xs)))
 
   -- one more, stored behind them
   pub first_of_push : (d : X) (xs : List X) (n : ℕ) (v : X) → n < length xs → first_of (n + 1) d (set xs n v) ≡ first_of n d xs ++ v ∷ []

@@ -13,7 +13,7 @@ use lib.Dec.{ltb}
 use lib.ListN.{length, get_or, set, length-set}
 use Rattle.words.specs.Lists.{keep, cons_if}
 use Rattle.words.proofs.Sums.{both_true}
-use Rattle.words.proofs.Tabulate.{from, from_end, from_next, length_firstOf}
+use Rattle.words.proofs.Tabulate.{from, from_end, from_next, length_first_of}
 use Rattle.limits.specs.Limits.{labels_limit}
 use Rattle.labels.specs.Labels.{labels}
 use Rattle.labels.specs.LetterSets.{has, spelled}
@@ -77,7 +77,7 @@ not_above false n = omega arith
 -- there are as many letters as labels, and so few enough
 few : (x : Operands) → Gathered x → length (labels (together (shape_of x))) ≤ labels_limit → x.letters.count ≤ labels_limit
 unfolding spelled
-few x h b = omega (arith, length_firstOf x.letters.count 0 x.letters.letters, ap length h.all.spells, b)
+few x h b = omega (arith, length_first_of x.letters.count 0 x.letters.letters, ap length h.all.spells, b)
 
 -- the labels of all letters that the set has
 all_letters : (x : Operands) → Gathered x → (p : ℕ → Bool)

@@ -13,7 +13,7 @@ use lib.Dec.{ltb}
 use lib.ListN.{length, get_or, set, length-set}
 use Rattle.words.specs.Lists.{keep, cons_if}
 use Rattle.words.proofs.Sums.{both_true}
-use Rattle.words.proofs.Tabulate.{from, from_end, from_next, length_firstOf}
+use Rattle.words.proofs.Tabulate.{from, from_end, from_next, length_first_of}
 use Rattle.limits.specs.Limits.{labels_limit}
 use Rattle.labels.specs.Labels.{labels}
 use Rattle.labels.specs.LetterSets.{has, spelled}
