@@ -1,15 +1,14 @@
 -- The longest even beginning: exactly the beginnings that are no longer are even; the stretches of a list cover it; the length from a place on, by that from
 -- the next place on.
 -- Assumes nothing.
-use Rattle.std.proofs.Common.{◌≡◌, ℕ, zero, suc, ◌+◌, ◌-◌, ◌^◌, ◌<◌, ◌≤◌, min, Bool, true, false, cond, ◌&&◌, eqb, leb, List, [], ◌∷◌, ◌++◌, length, get_or, take, drop, sym, refl, ap, ◌∙◌, add-one, arith, length-drop, take-append-drop, length-take, eq-eqb, ne_eqb, eqb-true, le-leb}
+use Rattle.std.proofs.Common.{◌≡◌, ℕ, zero, suc, ◌+◌, ◌^◌, ◌<◌, ◌≤◌, Bool, true, false, cond, ◌&&◌, eqb, leb, List, [], ◌∷◌, ◌++◌, length, take, drop, sym, refl, ap, ◌∙◌, arith, length-drop, take-append-drop, length-take, eq-eqb, ne_eqb, le-leb}
 use borrow.Author.Tests.{lt-leb}
 use lib.Dec.{leb-zero, leb-suc-zero, leb-suc-suc}
 use lib.Seq.{take-length}
 use Rattle.words.specs.Words.{word}
-use Rattle.words.specs.Sums.{All}
 use Rattle.block.specs.Block.{Step, even, scattered, steps, step_from, classify}
 use Rattle.block.specs.Places.{StepOf}
-use Rattle.block.specs.Stretches.{following, longest, is_even, LongestEven, stretches, joined, Furthest, Covered}
+use Rattle.block.specs.Stretches.{following, longest, is_even, LongestEven, stretches, Furthest, Covered}
 
 -- ---- exactly the beginnings that are no longer are even
 
@@ -128,7 +127,7 @@ module _ {x y s : ℕ} (step : StepOf x y s) where
   unfolding longest
   one_longer {z} zs e =
       let same : step_from y z ≡ step_from x y = same_step {y = y} {z = z} {s = s} (rw step.reaches (omega arith)) (rw step.is (omega arith)) e ∙ step.is in
-      rw (same, second) (omega arith)
+      ap (λ (k : ℕ). suc (following k y (z ∷ zs)) + 1) same ∙ rw second (omega arith)
 
   pub stops : {z : ℕ} (zs : List ℕ) → (z ≡ word 64 (y + s) → ⊥) → longest (x ∷ y ∷ z ∷ zs) ≡ 2
   unfolding longest

@@ -1,6 +1,6 @@
 -- The lengths from each place of a block on, and the places of a stretch: each is a step past the one before.
 -- Assumes nothing.
-use Rattle.std.proofs.Common.{◌≡◌, ℕ, zero, suc, ◌+◌, ◌-◌, ◌*◌, ◌^◌, ◌<◌, ◌≤◌, min, Bool, true, false, cond, eqb, List, [], ◌∷◌, length, get_or, drop, sym, refl, ap, ◌∙◌, add-zero, add_assoc, suc-mul, zero-mul, add-one, arith, length-drop, drop_of_length-le, get_or-drop, eqb-true}
+use Rattle.std.proofs.Common.{◌≡◌, ℕ, zero, suc, ◌+◌, ◌*◌, ◌^◌, ◌<◌, ◌≤◌, min, Bool, true, false, cond, eqb, List, [], ◌∷◌, length, get_or, sym, refl, ap, ◌∙◌, add-zero, suc-mul, zero-mul, arith, length-drop, drop_of_length-le, get_or-drop, eqb-true}
 use native.Mathlib.Decide.{dec_lt}
 use borrow.Author.Tests.{eqb-false}
 use Rattle.words.specs.Lists.{first_of}
@@ -9,7 +9,7 @@ use Rattle.words.specs.Loops.{Within}
 use Rattle.words.proofs.Modular.{word_add_left, word_add_right}
 use Rattle.words.proofs.Tabulate.{from, from_end, from_next, length_first_of, get_or_first_of}
 use Rattle.limits.specs.Limits.{block_limit}
-use Rattle.block.specs.Block.{Step, even, scattered, step_from, classify, block_step}
+use Rattle.block.specs.Block.{even, scattered, step_from, classify, block_step}
 use Rattle.words.specs.Stepped.{stepped}
 use Rattle.block.specs.Stretches.{following, longest, longest_from, Ends}
 use Rattle.block.specs.Places.{place_of, StepOf, Measured}

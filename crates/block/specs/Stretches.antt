@@ -1,6 +1,6 @@
 -- The even stretches of a block of offsets: the longest even beginning, the same from any later place, and what is claimed of them.
 -- Assumes nothing.
-use Rattle.std.specs.Prelude.{◌≡◌, ℕ, zero, suc, ◌+◌, ◌^◌, ◌<◌, ◌≤◌, Bool, true, false, cond, List, [], ◌∷◌, ◌++◌, length, take, drop, ◌==◌, nat_le}
+use Rattle.std.specs.Prelude.{◌≡◌, ℕ, zero, suc, ◌+◌, ◌<◌, ◌≤◌, Bool, true, false, cond, List, [], ◌∷◌, ◌++◌, length, take, drop, ◌==◌, nat_le}
 use Rattle.words.specs.Sums.{All}
 use Rattle.words.specs.Words.{word}
 use Rattle.block.specs.Block.{Step, even, scattered, step_from, classify, in_use}

@@ -13,7 +13,7 @@ use borrow.Author.Tests.{ltb-true, lt-ltb, le-ltb}
 use lib.Arith.{digits_div, digits_mod}
 use lib.Seq.{set-get_or}
 use lib.Dec.{ltb}
-use lib.ListN.{length, get_or, set}
+use lib.ListN.{length, get_or}
 use Rattle.words.specs.Fronts.{stored, front}
 use Rattle.words.specs.Loops.{each, put}
 use Rattle.words.proofs.Store.{length_each, length_puts, puts_other, puts_at}

@@ -1,0 +1,16 @@
+-- `add_by_both` meets its contract. The invariant: D's words are those that k turns leave. A turn makes one word more. The measure is how many are left.
+use Rattle.std.proofs.Common.{◌+◌, get_or, refl, arith, length-set}
+use Rattle.words.specs.Loops.{each}
+use Rattle.accumulate.specs.Added.{added_to}
+use Rattle.words.proofs.Store.{put_next}
+use Rattle.contiguous.proofs.contiguous.add_by_both.Goals as goal
+
+pub loop-k-init : goal.loop-k-init
+unfolding each
+loop-k-init c = (omega arith, refl, refl)
+
+pub loop-k-preserved : goal.loop-k-preserved
+loop-k-preserved c =
+    let s = c.args in
+    let l = c.loop-k in
+    (omega arith, simp length-set l.invariant.1, put_next (λ j. added_to s.f (get_or s.sums.now (s.r + j) 0)) (λ j. s.at + j) s.d.now l.k l.invariant.2 refl c.added.ensures)
