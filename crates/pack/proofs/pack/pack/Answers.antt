@@ -30,13 +30,6 @@ pub loop-d-init : goal.loop-d-init
 unfolding each
 loop-d-init c = (omega arith, refl, refl)
 
-pub band-m-requires : goal.band-m-requires
-band-m-requires c = tt
-
-pub overflow_mul-width : goal.overflow_mul-width
-overflow_mul-width c =
-    omega (arith, lane_inside c.args.width {d = c.loop-d.d} {filled = c.args.filled} (omega arith) (le_refl _) (le_refl _), c.requires.room)
-
 pub pack_band-requires : goal.pack_band-requires
 pack_band-requires c =
     let l = c.loop-d in
@@ -52,12 +45,6 @@ pack_band-requires c =
       room = room c.args.width l.d fits (rw l.invariant.1 c.requires.room);
     }
 
-pub overflow_add-d : goal.overflow_add-d
-overflow_add-d c = omega (arith, c.band-m.ensures.0)
-
-pub loop-d-smaller : goal.loop-d-smaller
-loop-d-smaller c = omega (arith, c.band-m.ensures.0, c.band-m.ensures.1 (omega arith))
-
 pub loop-d-preserved : goal.loop-d-preserved
 loop-d-preserved c =
     let a = c.args in
@@ -68,9 +55,3 @@ loop-d-preserved c =
       lanes.auto.out ∙ l.invariant.1,
       band_more a.width a.block.count l.d m.result (word_at a.src.now a.starts.now a.block.offsets) a.out.now l.invariant.2 lanes.ensures,
     )
-
-pub returns : goal.returns
-returns c =
-    let l = c.loop-d in
-    let e : l.d ≡ c.args.filled = omega arith in
-    rw e at l.invariant.2

@@ -1,5 +1,6 @@
 -- `of` meets its contract: `blocks_in` gives the block counts of the cut, and the branch the panels, at least one. The counts and the products
 -- are small enough, as the cut is in its limits.
+-- Assumes nothing.
 use mathlib.Core.Path.{◌≡◌, refl}
 use Prim.Native.Nat.{ℕ, ◌*◌, ◌≤◌}
 use native.Mathlib.Omega.{arith}

@@ -10,8 +10,7 @@ use Rattle.offsets.specs.Counts.{offset_in}
 use Rattle.block.specs.declared.block.Block.{Block}
 use Rattle.block.specs.Places.{BlockOf}
 use Rattle.scatter.specs.ScatterVectors.{word_at, scatter_vector, Blocked}
-use Rattle.scatter.proofs.blocks.block_of.Statement.{statement}
-use Rattle.scatter.proofs.blocks.block_of.Tie as tie
+use Rattle.scatter.proofs.blocks.block_of.Goals as goal
 
 -- the block of a scatter vector that starts from no offset
 blocked : (o : Operand) (g : List Label) (first count : ℕ) (before : List ℕ) {after : List ℕ} {r : Block} → count ≤ block_limit → after ≡ scatter_vector o 0 g first count before
@@ -26,20 +25,6 @@ blocked o g first count before few w of =
           ∙ ap (word 64) (zero-add (offset_in (word_of 64) o g (first + k)));
     }
 
-slice-aggregate-scatter-vector : tie.Need-slice-aggregate-scatter-vector
-slice-aggregate-scatter-vector c = search rules
-
-scatter-vector-requires : tie.Need-scatter-vector-requires
-scatter-vector-requires c κs = search rules
-
-of-requires : tie.Need-of-requires
-of-requires c κs = search rules
-
-returns : tie.Need-returns
+pub returns : goal.returns
 returns c =
-    let l = c.before.before in
-    blocked _ _ _ _ _ l.before.before.requires.4 l.scatter-vector.ensures c.of.ensures
-
-pub block_of_spec : {M : Type 1} → statement M
-block_of_spec =
-    tie.close (tie.spec slice-aggregate-scatter-vector scatter-vector-requires of-requires returns)
+    blocked _ _ _ _ _ c.requires.4 c.scatter_vector.ensures c.of.ensures

@@ -1,0 +1,34 @@
+-- `sum_of_runs` meets its contract. The invariant: the sum is the word of the dot product over the counts of the first m runs, and where there is a run m, the
+-- digits and address words are where it begins. A run's places are those of its counts, so its sum is the next part of that product. The measure is how many
+-- runs are left.
+-- Assumes nothing.
+use Rattle.std.proofs.Common.{◌≡◌, ℕ, ◌+◌, ◌-◌, ◌*◌, ◌<◌, ◌≤◌, List, length, get_or, drop, sym, refl, ap, ◌∙◌, mul-zero, mul-suc, add-one, arith, lit<}
+use Rattle.words.specs.Words.{word}
+use Rattle.words.specs.Sums.{sum_to}
+use Rattle.words.specs.Loops.{Within}
+use Rattle.words.specs.Stepped.{stepped}
+use Rattle.words.proofs.Sums.{sum_to_ext, sum_to_add}
+use Rattle.limits.specs.Limits.{labels_limit}
+use Rattle.contraction.specs.Operands.{Operand, A, B}
+use Rattle.groups.specs.Groups.{Label, size}
+use Rattle.offsets.specs.declared.offsets.Offsets.{Offsets}
+use Rattle.offsets.specs.Offsets.{words_in}
+use Rattle.offsets.proofs.OwnedWords.{words_fit}
+use Rattle.odometer.specs.Odometer.{Stands}
+use Rattle.sums.specs.declared.walk.Walk.{Walk}
+use Rattle.dots.specs.Dot.{dot}
+use Rattle.sums.specs.Walk.{reached, sum_from, over, Walks}
+use Rattle.sums.proofs.GroupRuns.{run_below, run_place, first_run, next_run}
+use Rattle.sums.proofs.sum.sum_of_runs.Given as goal
+
+-- A's word × B's word at a count, from an address word of each tensor
+abbrev pub term : List Label → List ℕ → List ℕ → (Operand → ℕ) → ℕ → ℕ
+term g a b x n = get_or a (reached A (x A) g n) 0 * get_or b (reached B (x B) g n) 0
+
+abbrev pub invariant-loop-m : goal.invariant-loop-m
+invariant-loop-m l =
+    (l.m ≤ l.depth.runs) × (length l.digits ≡ labels_limit) × (l.sum ≡ word 32 (sum_to (l.depth.len * l.m) (term (over l.depth) l.a l.b (words_in l.initial.at))))
+    × (l.m < l.depth.runs → Stands (drop 1 (over l.depth)) (words_in l.initial.at) l.m l.digits l.at)
+
+abbrev pub decreases-loop-m : goal.decreases-loop-m
+decreases-loop-m l = l.depth.runs - l.m
