@@ -3,7 +3,7 @@
 use Rattle.std.proofs.Common.{◌≡◌, ℕ, ◌≤◌, true, ◌&&◌, eqb, leb, ap, ◌∙◌, arith, leb-true}
 use Rattle.words.specs.Words.{word}
 use Rattle.words.proofs.Lists.{eqb-true}
-use Rattle.words.proofs.Modular.{row_inside, row_place_lem}
+use Rattle.words.proofs.Modular.{row_place_lem}
 use Rattle.words.proofs.Sums.{both_true}
 use Rattle.dots.proofs.Products.{dot_ext}
 use Rattle.dots.proofs.dot.run_sum.Goals as goal
@@ -14,14 +14,6 @@ in_rows p q n e =
     let x = both_true (eqb p 1) (eqb q 1 && leb 1 n) e in
     let y = both_true (eqb q 1) (leb 1 n) x.1 in
     (eqb-true p 1 x.0, eqb-true q 1 y.0, leb-true 1 n y.1)
-
-pub row_sum-requires : goal.row_sum-requires
-row_sum-requires c =
-    let a = c.args in
-    let w = in_rows a.step_a a.step_b a.len c.if-step_a-step_b.true in (
-      row_inside {x = a.from_a} c.ranges.from_a.fits w.2 c.ranges.len.fits (omega arith) (rw w.0 at c.requires.in_a),
-      row_inside {x = a.from_b} c.ranges.from_b.fits w.2 c.ranges.len.fits (omega arith) (rw w.1 at c.requires.in_b),
-    )
 
 pub returns-then-step_a-step_b : goal.returns-then-step_a-step_b
 returns-then-step_a-step_b c =

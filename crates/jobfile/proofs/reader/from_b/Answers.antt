@@ -2,14 +2,9 @@
 -- Assumes nothing.
 use mathlib.Core.Path.{ap}
 use Rattle.records.specs.RecordParts.{tensor_parts}
-use Rattle.records.proofs.Reading.{got_held, goes_on, stops}
+use Rattle.records.proofs.Reading.{goes_on, stops}
 use Rattle.jobfile.specs.Format.{from_b}
 use Rattle.jobfile.proofs.reader.from_b.Goals as goal
-
-pub from_c-requires : goal.from_c-requires
-from_c-requires c =
-    let held = got_held c.tensor_records-read.ensures (ap tensor_parts c.in-Got.is) in
-    (c.requires.0, held.0, held.1)
 
 pub returns-in-Got : goal.returns-in-Got
 unfolding from_b

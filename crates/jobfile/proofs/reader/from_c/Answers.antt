@@ -2,19 +2,13 @@
 -- Assumes nothing.
 use mathlib.Core.Path.{sym, ap, ◌∙◌}
 use Rattle.records.specs.RecordParts.{tensor_parts}
-use Rattle.records.proofs.Reading.{got_held, goes_on, stops}
+use Rattle.records.proofs.Reading.{goes_on, stops}
 use Rattle.jobfile.specs.Format.{from_c}
 use Rattle.jobfile.proofs.reader.from_c.Goals as goal
 
 pub returns-then-not-layout_begins : goal.returns-then-not-layout_begins
 unfolding from_c
 returns-then-not-layout_begins c = rw (sym c.layout_begins.ensures ∙ c.if-not-layout_begins.true) c.from_d.ensures
-
-pub from_d-requires-in-Got : goal.from_d-requires-in-Got
-from_d-requires-in-Got c =
-    let pre = c.requires in
-    let held = got_held c.tensor_records-read.ensures (ap tensor_parts c.in-Got.is) in
-    (pre.0, pre.1, held.0, held.1)
 
 pub returns-in-Got : goal.returns-in-Got
 unfolding from_c

@@ -2,12 +2,9 @@
 -- Assumes nothing.
 use mathlib.Core.Path.{ap}
 use Rattle.records.specs.RecordParts.{tensor_parts}
-use Rattle.records.proofs.Reading.{got_held, goes_on, stops}
+use Rattle.records.proofs.Reading.{goes_on, stops}
 use Rattle.jobfile.specs.Format.{read_job}
 use Rattle.jobfile.proofs.reader.read_job.Goals as goal
-
-pub from_b-requires : goal.from_b-requires
-from_b-requires c = got_held c.tensor_records-read.ensures (ap tensor_parts c.in-Got.is)
 
 pub returns-in-Got : goal.returns-in-Got
 unfolding read_job

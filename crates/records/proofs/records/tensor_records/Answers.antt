@@ -3,11 +3,8 @@
 use mathlib.Core.Path.{ap}
 use Rattle.records.specs.Records.{tensor_records}
 use Rattle.records.specs.RecordParts.{layout_part}
-use Rattle.records.proofs.Reading.{got_held, goes_on, stops}
+use Rattle.records.proofs.Reading.{goes_on, stops}
 use Rattle.records.proofs.records.tensor_records.Goals as goal
-
-pub words_after-requires : goal.words_after-requires
-words_after-requires c = got_held c.layout_record-read.ensures (ap layout_part c.in-Got.is)
 
 pub returns-in-Got : goal.returns-in-Got
 unfolding tensor_records

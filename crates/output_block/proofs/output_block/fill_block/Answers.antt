@@ -1,0 +1,12 @@
+-- `fill_block` meets its contract: each sum is that of its output modulo 2^32, and so the stored run is the filled one.
+-- Assumes nothing.
+use borrow.Author.Rules.{rules}
+use Rattle.sums.specs.Walk.{over}
+use Rattle.output_block.proofs.StoredSums.{stored_run}
+use Rattle.output_block.proofs.output_block.fill_block.Goals as goal
+
+pub returns : goal.returns
+returns c =
+    let x = c.args in
+    stored_run x.named x.alpha x.beta (over x.depth) x.a.now x.b.now x.c.now x.from x.step x.d.now
+    c.block_sums-sums.ensures c.store_run.ensures
