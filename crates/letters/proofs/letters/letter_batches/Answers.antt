@@ -1,0 +1,31 @@
+-- `letter_batches` meets its contract. The invariant: the words are those that the first h turns leave. The measure is how many are left. Where no batch count
+-- is walked there is no output index, so that all of them would leave the same words.
+-- Assumes nothing.
+use Rattle.std.proofs.Common.{◌-◌, sym, ◌∙◌, subst, arith, rules}
+use Rattle.tiles.specs.Grid.{cut_in}
+use Rattle.letters.specs.Placed.{Placed, column_letters}
+use Rattle.letters.proofs.LetterLoops.{Turns, turns_none, turns_next, turns_all, walked_below, walked_all}
+use Rattle.letters.proofs.letters.letter_batches.Goals as goal
+
+pub loop-h-init : goal.loop-h-init
+loop-h-init c = turns_none _ _ _
+
+pub walked-batches-requires : goal.walked-batches-requires
+walked-batches-requires c = tt
+
+pub letter_columns-requires : goal.letter_columns-requires
+letter_columns-requires c =
+    let l = c.loop-h in
+    (c.requires.0, subst (Placed _ _) (sym l.invariant.kept) c.requires.1, omega (arith, walked_below c.requires.0 c.args.t c.walked-batches.ensures))
+
+pub loop-h-preserved : goal.loop-h-preserved
+loop-h-preserved c =
+    let f = c.letter_columns in
+    turns_next c.loop-h.invariant (omega arith) f.auto.out f.ensures
+
+pub shape_of-out : goal.shape_of-out
+shape_of-out c = c.loop-h.invariant.kept
+
+pub returns : goal.returns
+returns c =
+    turns_all c.loop-h.invariant (omega arith) ∙ walked_all c.requires.0 c.args.t c.walked-batches.ensures _
