@@ -9,7 +9,7 @@ use Rattle.letters.proofs.LetterLoops.{Turns, turns_none, turns_next, turns_all}
 use Rattle.letters.proofs.letters.letter_columns.Given as goal
 
 abbrev pub invariant-loop-j : goal.invariant-loop-j
-invariant-loop-j l = Turns l.columns (λ l.j. each (cut_in l.g).M (λ i. lettered l.p (cut_in l.g) l.t l.h i l.j)) l.initial.out l.j l.out
+invariant-loop-j l = Turns l.columns (λ j. each (cut_in l.g).M (λ i. lettered l.p (cut_in l.g) l.t l.h i j)) l.initial.out l.j l.out
 
 abbrev pub decreases-loop-j : goal.decreases-loop-j
 decreases-loop-j l = l.columns - l.j
