@@ -1,9 +1,8 @@
 -- Where the words of a line's sums stand. Where a block's offsets go up by one, so do its places from each start; where the starts go up by one, so do the places
 -- of each offset. To reduce an address first changes nothing.
 -- Assumes nothing.
-use Rattle.std.proofs.Common.{◌≡◌, ℕ, ◌+◌, ◌*◌, ◌^◌, ◌<◌, ◌≤◌, List, length, get_or, sym, refl, ap, ◌∙◌, add_comm, mul-one, add-one, arith}
+use Rattle.std.proofs.Common.{◌≡◌, ℕ, ◌+◌, ◌*◌, ◌<◌, ◌≤◌, List, get_or, sym, ap, ◌∙◌, add_comm, mul-one, arith}
 use Rattle.words.specs.Words.{word}
-use Rattle.words.specs.Sums.{sum_to}
 use Rattle.words.specs.Loops.{Within}
 use Rattle.words.specs.Stepped.{stepped}
 use Rattle.words.proofs.Modular.{word_add_left, word_add_right}

@@ -10,17 +10,7 @@ use Rattle.copy.specs.Copied.{column_copied}
 use Rattle.copy.specs.CopyNeeds.{Copyable}
 use Rattle.copy.proofs.copy.copy_tile.Goals as goal
 
--- column b can be copied, from its place `source` in C to its place `place` in D
-column_copyable : {from : ℕ} {rows cols : Block} {to : ℕ} {down across : Block} {c d now source place : ℕ} → Copyable from rows cols to down across c d
-    → (b : ℕ) → b < across.count → now ≡ d → source ≡ place_of from cols.offsets b → place ≡ place_of to across.offsets b
-    → (down.count ≤ block_limit) × Within down.count (place_of source rows.offsets) c × Within down.count (place_of place down.offsets) now
-column_copyable able b h e s p = (
-  able.few_rows,
-  rw (s, ← able.same_rows) (able.reads.each b (rw able.same_columns h)),
-  rw (p, e) (able.writes.each b h),
-)
-
--- and so column b is copied
+-- column b is copied, from its place `source` in C to its place `place` in D
 column_copied_lem : (c : List ℕ) (from : ℕ) (rows cols : Block) (to : ℕ) (down across : Block) (b : ℕ) (d : List ℕ) {source place : ℕ} {after : List ℕ}
     → source ≡ place_of from cols.offsets b → place ≡ place_of to across.offsets b
     → after ≡ overwrite down.count (place_of place down.offsets) (λ a. get_or c (place_of source rows.offsets a) 0) d
@@ -30,11 +20,6 @@ column_copied_lem c from rows cols to down across b d s p e = rw (s, p) at e
 pub loop-b-init : goal.loop-b-init
 unfolding each
 loop-b-init c = (omega arith, refl, refl)
-
-pub copy_column-requires : goal.copy_column-requires
-copy_column-requires c =
-    column_copyable c.requires c.loop-b.b c.loop-b-test.true c.loop-b.invariant.1
-    c.wrapping_add_u64-source.ensures.value c.wrapping_add_u64-place.ensures.value
 
 pub loop-b-preserved : goal.loop-b-preserved
 loop-b-preserved c =

@@ -1,14 +1,9 @@
 -- `row_lanes` meets its contract: a row's sums are those of packed B's lanes, with A and B exchanged.
 -- Assumes nothing.
-use Rattle.std.proofs.Common.{◌+◌, sym, ap, ◌∙◌, arith}
+use Rattle.std.proofs.Common.{◌+◌, sym, ap, ◌∙◌}
 use Rattle.words.specs.Words.{word}
 use Rattle.kernel.proofs.Columns.{exchanged}
 use Rattle.kernel.proofs.kernel.row_lanes.Goals as goal
-
-pub lane_by_lane-requires : goal.lane_by_lane-requires
-lane_by_lane-requires c =
-    let p = c.requires in
-    record { fits = p.fits; few = p.few; lanes = p.right; words = record { each = λ d h. omega (arith, p.left.each d h) } }
 
 pub returns : goal.returns
 returns c =

@@ -1,15 +1,8 @@
 -- `add_products` meets its contract: where both steps are 1 the words stand one after the other.
 -- Assumes nothing.
 use Rattle.std.proofs.Common.{arith}
-use Rattle.lanes.proofs.LaneTurns.{products_same, row_room, row_at}
+use Rattle.lanes.proofs.LaneTurns.{products_same, row_at}
 use Rattle.lanes.proofs.lanes.add_products.Goals as goal
-
-pub add_paired-requires : goal.add_paired-requires
-add_paired-requires c = (
-  c.requires.1,
-  row_room c.requires.0 c.requires.1 {x = c.args.i} c.ranges.i.fits (omega arith) c.if-step_a-eq1.true c.requires.2,
-  row_room c.requires.0 c.requires.1 {x = c.args.j} c.ranges.j.fits (omega arith) c.if-step_b-eq1.true c.requires.3,
-)
 
 pub returns-then-step_b-eq1 : goal.returns-then-step_b-eq1
 returns-then-step_b-eq1 c =

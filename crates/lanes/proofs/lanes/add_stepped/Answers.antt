@@ -1,6 +1,6 @@
 -- `add_stepped` meets its contract. The invariant: r is at most n, the address words are r steps from the first, and the sums are those that r turns leave.
 -- The measure is how many are left.
-use Rattle.std.proofs.Common.{◌≡◌, ◌<◌, length, refl, arith}
+use Rattle.std.proofs.Common.{refl, arith}
 use Rattle.words.specs.Loops.{each}
 use Rattle.words.proofs.Modular.{step_none, step_more}
 use Rattle.lanes.specs.LaneProducts.{products}
@@ -12,34 +12,6 @@ unfolding each
 loop-r-init c =
     (omega arith, step_none c.args.step_a c.ranges.from_a.fits, step_none c.args.step_b c.ranges.from_b.fits, refl)
 
-pub offset_bounds-a-i : goal.offset_bounds-a-i
-offset_bounds-a-i c =
-    let l = c.loop-r in
-    let h : l.i < length c.args.a.now = rw l.invariant.1 (c.requires.1.each l.r c.loop-r-test.true) in
-    omega arith
-
-pub bounds-a-i : goal.bounds-a-i
-bounds-a-i c =
-    let l = c.loop-r in
-    rw l.invariant.1 (c.requires.1.each l.r c.loop-r-test.true)
-
-pub offset_bounds-b-j : goal.offset_bounds-b-j
-offset_bounds-b-j c =
-    let l = c.loop-r in
-    let h : l.j < length c.args.b.now = rw l.invariant.2 (c.requires.2.each l.r c.loop-r-test.true) in
-    omega arith
-
-pub bounds-b-j : goal.bounds-b-j
-bounds-b-j c =
-    let l = c.loop-r in
-    rw l.invariant.2 (c.requires.2.each l.r c.loop-r-test.true)
-
-pub wrapping_add_u64-i-requires : goal.wrapping_add_u64-i-requires
-wrapping_add_u64-i-requires c = tt
-
-pub wrapping_add_u64-j-requires : goal.wrapping_add_u64-j-requires
-wrapping_add_u64-j-requires c = tt
-
 pub loop-r-preserved : goal.loop-r-preserved
 loop-r-preserved c =
     let s = c.args in
@@ -49,9 +21,3 @@ loop-r-preserved c =
       step_more s.from_b s.step_b l.r l.invariant.2 c.wrapping_add_u64-j.ensures.value,
       product_turn (products s.a.now s.from_a s.step_a s.b.now s.from_b s.step_b) s.sums.now l.r l.invariant.3 (rw (← l.invariant.1, ← l.invariant.2) c.add_at.ensures),
     )
-
-pub returns : goal.returns
-returns c =
-    let l = c.loop-r in
-    let e : l.r ≡ c.args.n = omega arith in
-    rw e at l.invariant.3

@@ -1,11 +1,8 @@
 -- `Block::of` meets its contract: the step and the lengths are those of the count as clipped, and so of the count.
 -- Assumes nothing.
-use Rattle.std.proofs.Common.{refl, ◌∙◌, arith}
+use Rattle.std.proofs.Common.{refl, ◌∙◌}
 use Rattle.block.proofs.Stretches.{clipped_step, clipped_lengths}
 use Rattle.block.proofs.block.Block.of.Goals as goal
-
-pub step_of-step-requires : goal.step_of-step-requires
-step_of-step-requires c = (omega arith, c.wide.ensures ∙ c.lengths_of-lengths.ensures.each 0)
 
 pub returns : goal.returns
 returns c =
