@@ -35,8 +35,7 @@ use Rattle.next_runs.specs.NextRuns.{Fillable}
 use Rattle.direct.proofs.DirectResult.{clear, distinct, filled_result}
 use Rattle.answers.specs.PlainAnswer.{plain_done, plain_call_of}
 use Rattle.plain.proofs.PlainAnswered.{call_refused, call_done}
-use Rattle.plain.proofs.call.contract.Statement.{statement}
-use Rattle.plain.proofs.call.contract.Tie as tie
+use Rattle.plain.proofs.call.contract.Goals as goal
 
 module _ (k : Contraction) (w : Slices) (e : first_no k w ≡ 0) where
   passed : AllPassed (tensors k) (lengths_in k w)
@@ -88,90 +87,62 @@ module _ (k : Contraction) (w : Slices) (e : first_no k w ≡ 0) where
 zero_found : {k m : ℕ} → k ≡ m → k ≡ 0 → m ≡ 0
 zero_found e z = sym e ∙ z
 
--- the slices as they were handed in
-abbrev lent : tie.Start → Slices
-lent s = four s.args.a.now s.args.b.now s.args.c.now s.args.d.now
+pub returns-then-number-ne0 : goal.returns-then-number-ne0
+returns-then-number-ne0 c =
+    let w = four c.args.a.now c.args.b.now c.args.c.now c.args.d.now in
+    call_refused c.args.k w c.first_no-x.ensures.number (omega arith)
 
-first-no-requires : tie.Need-first-no-requires
-first-no-requires c κs = search rules
+pub folded-output-requires : goal.folded-output-requires
+folded-output-requires c =
+    let k = c.args.k in
+    let w = four c.args.a.now c.args.b.now c.args.c.now c.args.d.now in
+    let e : first_no k w ≡ 0 = zero_found c.first_no-x.ensures.number (omega arith) in
+    fold_needs k w e _ (c.first_no-x.ensures.lists (omega arith)) _
 
-returns : tie.Need-returns
+pub folded-depth-requires : goal.folded-depth-requires
+folded-depth-requires c =
+    let k = c.args.k in
+    let w = four c.args.a.now c.args.b.now c.args.c.now c.args.d.now in
+    let e : first_no k w ≡ 0 = zero_found c.first_no-x.ensures.number (omega arith) in
+    fold_needs k w e _ (c.first_no-x.ensures.lists (omega arith)) _
+
+pub walk_of-requires : goal.walk_of-requires
+walk_of-requires c =
+    let k = c.args.k in
+    let w = four c.args.a.now c.args.b.now c.args.c.now c.args.d.now in
+    let e : first_no k w ≡ 0 = zero_found c.first_no-x.ensures.number (omega arith) in
+    let q =
+    walked k w e _ (c.first_no-x.ensures.lists (omega arith)) c.groups_of-sets.result c.groups_of-sets.ensures c.folded-output.result c.folded-depth.result
+    c.base_of.result c.folded-output.ensures c.folded-depth.ensures c.base_of.ensures in
+    output_walks k w e _ _ _ q
+
+pub walk_of-requires-2 : goal.walk_of-requires-2
+walk_of-requires-2 c =
+    let k = c.args.k in
+    let w = four c.args.a.now c.args.b.now c.args.c.now c.args.d.now in
+    let e : first_no k w ≡ 0 = zero_found c.first_no-x.ensures.number (omega arith) in
+    let q =
+    walked k w e _ (c.first_no-x.ensures.lists (omega arith)) c.groups_of-sets.result c.groups_of-sets.ensures c.folded-output.result c.folded-depth.result
+    c.base_of.result c.folded-output.ensures c.folded-depth.ensures c.base_of.ensures in
+    depth_walks k w e _ _ _ q
+
+pub fill-requires : goal.fill-requires
+fill-requires c =
+    let k = c.args.k in
+    let w = four c.args.a.now c.args.b.now c.args.c.now c.args.d.now in
+    let e : first_no k w ≡ 0 = zero_found c.first_no-x.ensures.number (omega arith) in
+    let q =
+    walked k w e _ (c.first_no-x.ensures.lists (omega arith)) c.groups_of-sets.result c.groups_of-sets.ensures c.folded-output.result c.folded-depth.result
+    c.base_of.result c.folded-output.ensures c.folded-depth.ensures c.base_of.ensures in
+    fill_asks k w e _ _ _ q c.walk_of.result c.walk_of-2.result c.walk_of.ensures c.walk_of-2.ensures
+
+pub returns : goal.returns
 returns c =
-    let s = c.before.before.before.before.before.before in
-    call_refused s.args.k (lent s) c.before.first-no.ensures.number (omega arith)
-
-groups-of-requires : tie.Need-groups-of-requires
-groups-of-requires c κs = (c.before.before.first-no.ensures.lists (omega arith)).gathered
-
--- once all questions have passed
-module _ (c : tie.After-groups-of) where
-  abbrev start : tie.Start
-  start = c.before.before.before.before.before.before.before.before
-
-  none_refuses : first_no start.args.k (lent start) ≡ 0
-  none_refuses = zero_found c.before.before.before.first-no.ensures.number (omega arith)
-
-  ready : Ready start.args.k c.before.before.before.first-no.result.lists
-  ready = c.before.before.before.first-no.ensures.lists (omega arith)
-
-folded-requires : tie.Need-folded-requires
-folded-requires c κs = fold_needs (start c).args.k (lent (start c)) (none_refuses c) _ (ready c) _
-
-folded-requires-2 : tie.Need-folded-requires-2
-folded-requires-2 c κs = let g = c.before in fold_needs (start g).args.k (lent (start g)) (none_refuses g) _ (ready g) _
-
-base-of-requires : tie.Need-base-of-requires
-base-of-requires c κs = search rules
-
--- what is walked
-module _ (c : tie.After-base-of) where
-  abbrev grouped : tie.After-groups-of
-  grouped = c.before.before.before.before
-
-  walked_is : OutputPlanned (tensors (start grouped).args.k) c.before.before.before.folded.result c.before.before.folded2.result c.base-of.result
-  walked_is =
-      walked (start grouped).args.k (lent (start grouped)) (none_refuses grouped) _ (ready grouped) grouped.groups_of.result grouped.groups_of.ensures
-      c.before.before.before.folded.result c.before.before.folded2.result c.base-of.result c.before.before.before.folded.ensures c.before.before.folded2.ensures c.base-of.ensures
-
-walk_of-requires : tie.Need-walk_of-requires
-walk_of-requires c κs = let s = start (grouped c) in output_walks s.args.k (lent s) (none_refuses (grouped c)) _ _ _ (walked_is c)
-
-walk_of-requires-2 : tie.Need-walk_of-requires-2
-walk_of-requires-2 c κs = let b = c.before in let s = start (grouped b) in depth_walks s.args.k (lent s) (none_refuses (grouped b)) _ _ _ (walked_is b)
-
-fill-requires : tie.Need-fill-requires
-fill-requires c κs =
-    let b = c.before.before in
-    let s = start (grouped b) in
-    fill_asks s.args.k (lent s) (none_refuses (grouped b)) _ _ _ (walked_is b)
-    c.before.walk_of.result c.walk-of2.result c.before.walk_of.ensures c.walk-of2.ensures
-
-same_length : tie.Need-same-length
-same_length c = search rules
-
-returns-2 : tie.Need-returns-2
-returns-2 c =
-    let w = c.before.before.before in
-    let b = w.before.before in
-    let s = start (grouped b) in
-    ap (plain_call_of plain_done)
-    (c.before.before.fill.ensures
-    ∙ fill_leaves s.args.k (lent s) (none_refuses (grouped b)) _ _ _ (walked_is b)
-    w.before.walk_of.result w.walk-of2.result w.before.walk_of.ensures w.walk-of2.ensures)
-    ∙ call_done s.args.k (lent s) (sym (none_refuses (grouped b))) refl
-
-pub contract_spec : {M : Type 1} → statement M
-contract_spec =
-    tie.close
-    (tie.spec
-    first-no-requires
-    returns
-    groups-of-requires
-    folded-requires
-    folded-requires-2
-    base-of-requires
-    walk_of-requires
-    walk_of-requires-2
-    fill-requires
-    same_length
-    returns-2)
+    let k = c.args.k in
+    let w = four c.args.a.now c.args.b.now c.args.c.now c.args.d.now in
+    let e : first_no k w ≡ 0 = zero_found c.first_no-x.ensures.number (omega arith) in
+    let q =
+    walked k w e _ (c.first_no-x.ensures.lists (omega arith)) c.groups_of-sets.result c.groups_of-sets.ensures c.folded-output.result c.folded-depth.result
+    c.base_of.result c.folded-output.ensures c.folded-depth.ensures c.base_of.ensures in
+    ap (plain_call_of plain_done) (c.fill.ensures ∙ fill_leaves k w e _ _ _ q c.walk_of.result c.walk_of-2.result c.walk_of.ensures c.walk_of-2.ensures)
+    ∙ call_done k w (sym e) refl
