@@ -1,13 +1,11 @@
 -- `copy_tile` meets its contract. The invariant: D's words are those that b turns leave. A turn copies column b, from its place in C to its place in D.
 -- The measure is how many columns are left.
-use Rattle.std.proofs.Common.{◌≡◌, ℕ, ◌<◌, ◌≤◌, List, get_or, refl, ◌∙◌, arith}
-use Rattle.words.specs.Loops.{each, overwrite, Within}
+use Rattle.std.proofs.Common.{◌≡◌, ℕ, List, get_or, refl, ◌∙◌, arith}
+use Rattle.words.specs.Loops.{each, overwrite}
 use Rattle.words.proofs.Loops.{each_next}
-use Rattle.limits.specs.Limits.{block_limit}
 use Rattle.block.specs.declared.block.Block.{Block}
 use Rattle.block.specs.Places.{place_of}
 use Rattle.copy.specs.Copied.{column_copied}
-use Rattle.copy.specs.CopyNeeds.{Copyable}
 use Rattle.copy.proofs.copy.copy_tile.Goals as goal
 
 -- column b is copied, from its place `source` in C to its place `place` in D
