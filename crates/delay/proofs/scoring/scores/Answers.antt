@@ -19,8 +19,7 @@ use Rattle.delay.specs.Scoring.{scoring}
 use Rattle.delay.specs.ExactScores.{AllWords, scored}
 use Rattle.delay.proofs.ScoringAccepted.{in_place_of_c}
 use Rattle.delay.proofs.ExactScores.{exact_scores}
-use Rattle.delay.proofs.scoring.scores.Statement.{statement}
-use Rattle.delay.proofs.scoring.scores.Tie as tie
+use Rattle.delay.proofs.scoring.scores.Goals as goal
 
 -- what the contraction leaves reads as the scores
 read : (xs ys : List ℕ) (greatest : ℕ) → DelayAccepted xs ys greatest → AllWords xs → AllWords ys → (d : List ℕ) → length d ≡ lag_room
@@ -33,53 +32,25 @@ read xs ys greatest e wx wy d n {k} {a} {after} f g lag h =
     (g ∙ ap (λ (x : Contraction). plain_call x (four xs ys xs d)) s ∙ in_place_of_c (suc greatest) (length xs - greatest) xs ys xs d) in
     rw w ((exact_scores xs ys greatest e wx wy d (omega (arith, (delay_sound xs ys greatest e).few)) (omega arith)).exact lag h)
 
-cast-scoring-of : tie.Need-overflow-cast-scoring-of
-cast-scoring-of c =
-    let s = c.before.before in
-    record { fits = omega (arith, (delay_sound s.args.x.now s.args.y.now s.args.greatest s.requires).few) }
+pub overflow_cast-greatest : goal.overflow_cast-greatest
+overflow_cast-greatest c =
+    record { fits = omega (arith, (delay_sound c.args.x.now c.args.y.now c.args.greatest c.requires).few) }
 
-add-scoring-of : tie.Need-overflow-add-scoring-of
-add-scoring-of c =
-    let s = c.before.before in
-    record { fits = omega (arith, (delay_sound s.args.x.now s.args.y.now s.args.greatest s.requires).few) }
+pub overflow_add-greatest : goal.overflow_add-greatest
+overflow_add-greatest c =
+    record { fits = omega (arith, (delay_sound c.args.x.now c.args.y.now c.args.greatest c.requires).few) }
 
-sub-scoring-of : tie.Need-overflow-sub-scoring-of
-sub-scoring-of c =
-    let s = c.before.before in
-    omega (arith, (delay_sound s.args.x.now s.args.y.now s.args.greatest s.requires).some)
+pub overflow_sub-x : goal.overflow_sub-x
+overflow_sub-x c =
+    omega (arith, (delay_sound c.args.x.now c.args.y.now c.args.greatest c.requires).some)
 
-cast-scoring-of-2 : tie.Need-overflow-cast-scoring-of-2
-cast-scoring-of-2 c =
-    let s = c.before.before in
-    record { fits = omega (arith, (delay_sound s.args.x.now s.args.y.now s.args.greatest s.requires).short) }
+pub overflow_cast-x : goal.overflow_cast-x
+overflow_cast-x c =
+    record { fits = omega (arith, (delay_sound c.args.x.now c.args.y.now c.args.greatest c.requires).short) }
 
-scoring-of-requires : tie.Need-scoring-of-requires
-scoring-of-requires c κs = search rules
-
-slice-aggregate-contract : tie.Need-slice-aggregate-contract
-slice-aggregate-contract c = search rules
-
-contract-requires : tie.Need-contract-requires
-contract-requires c κs = search rules
-
-returns : tie.Need-returns
+pub returns : goal.returns
 returns c l h =
-    let k = c.before in
-    let s = k.before.before.before.before.before in
-    read s.args.x.now s.args.y.now s.args.greatest s.requires
-    (λ i. omega (arith, k.before.before.before.before.shared-slice-known.given i))
-    (λ i. omega (arith, k.before.before.before.shared-slice-known2.given i))
-    (replicate lag_room 0) refl k.before.before.scoring-of.ensures k.contract.ensures l h
-
-pub scores_spec : {M : Type 1} → statement M
-scores_spec =
-    tie.close
-    (tie.spec
-    cast-scoring-of
-    add-scoring-of
-    sub-scoring-of
-    cast-scoring-of-2
-    scoring-of-requires
-    slice-aggregate-contract
-    contract-requires
-    returns)
+    read c.args.x.now c.args.y.now c.args.greatest c.requires
+    (λ i. omega (arith, c.shared_slice_known-1.given i))
+    (λ i. omega (arith, c.shared_slice_known-2-1.given i))
+    (replicate lag_room 0) refl c.scoring_of-k.ensures c.contract.ensures l h
