@@ -24,7 +24,7 @@ use Rattle.thin_tile.specs.ThinTile.{TileClear, tile_added}
 use Rattle.one_tile.specs.HeldPacks.{HeldAfter}
 use Rattle.one_tile.proofs.HeldBlocks.{some_rows, held_after}
 use Rattle.one_tile.proofs.TilePhases.{tile_numbered, tile_stepped, tile_started}
-use Rattle.one_tile.proofs.tile.run_tile.Goals.{Joined-thin}
+use Rattle.one_tile.proofs.tile.run_tile.Goals.{then-thin, else-thin}
 use Rattle.one_tile.proofs.tile.run_tile.Goals as goal
 
 -- the first of two blocks has room where both have, and the second behind it
@@ -52,19 +52,8 @@ not_last true false e h = true≢false (sym h)
 not_last false last e h = true≢false (sym e)
 
 -- where the two ways meet: D's words, which the last tile of a call has from C alone, and how many they are
-here : (c : Joined-thin) → let s = c.args in let x = c.tile-at.result in let d = begun s.p (cut_in s.g) x s.named s.c.now s.d.now in
-    (c.if-thin.d ≡ cond c.if-thin.direct (tile_added s.p (cut_in s.g) x s.alpha s.beta s.a.now s.b.now d) d)
-    × (s.last ≡ true → c.if-thin.direct ≡ false) × (length c.if-thin.d ≡ length s.d.now)
-here c =
-    let s = c.args in
-    let x = c.tile-at.result in
-    let b = c.start_from_c in
-    let f = tile_added s.p (cut_in s.g) x s.alpha s.beta s.a.now s.b.now in
-    let d = begun s.p (cut_in s.g) x s.named s.c.now s.d.now in
-    ⊎_elim
-    (λ w. (did f w.2.result c.if-thin.direct b.new.d d w.5 w.2.ensures b.ensures w.6, λ e. absurd (not_last c.is_thin.result s.last w.0.taken e), ap length w.5 ∙ w.2.kept.1.1.1.1.1.1.1.0 ∙ b.auto.d))
-    (λ w. (did f false c.if-thin.direct b.new.d d w.1 refl b.ensures w.2, λ e. w.2, ap length w.1 ∙ b.auto.d))
-    c.if-thin.branch
+abbrev Met : (List ℕ → List ℕ) → List ℕ → List ℕ → Bool → Bool → ℕ → Type 0
+Met f d now direct last n = (now ≡ cond direct (f d) d) × (last ≡ true → direct ≡ false) × (length now ≡ n)
 
 pub start_from_c-requires : goal.start_from_c-requires
 start_from_c-requires c =
@@ -85,7 +74,18 @@ pub returns-then-direct : goal.returns-then-direct
 returns-then-direct c =
     let s = c.args in
     let q = c.requires in
-    let h = here c.before in
+    let f = tile_added s.p (cut_in s.g) c.tile-at.result s.alpha s.beta s.a.now s.b.now in
+    let d = begun s.p (cut_in s.g) c.tile-at.result s.named s.c.now s.d.now in
+    let b = c.start_from_c in
+    let h : Met f d c.if-thin.d c.if-thin.direct s.last (length s.d.now) =
+    elim c.if-thin.branch [
+      | then-thin w ↦ (
+        did f w.thin_tile-direct.result c.if-thin.direct b.new.d d w.d-is w.thin_tile-direct.ensures b.ensures w.direct-is,
+        λ e. absurd (not_last c.is_thin.result s.last w.if-thin.true e),
+        ap length w.d-is ∙ w.thin_tile-direct.auto.d ∙ b.auto.d,
+      )
+      | else-thin w ↦ (did f false c.if-thin.direct b.new.d d w.d-is refl b.ensures w.direct-is, λ e. w.direct-is, ap length w.d-is ∙ b.auto.d)
+    ] in
     let t = c.tile-at.ensures in (
       tile_numbered s.p t s.a.now s.b.now s.alpha s.beta _ (rw c.if-direct.true at h.0)
           ∙ tile_started s.p t q.1 s.alpha s.beta s.a.now s.b.now s.c.now s.d.now q.2.places s.named,
@@ -106,25 +106,52 @@ renew_b-requires c =
 
 pub multiply_into_d-requires : goal.multiply_into_d-requires
 multiply_into_d-requires c =
-    let q = c.before.before.before.before.before.before.before.before.before.before.before.before.before.before.before.before.before.before.before.before.before.before.before.requires in (
+    let s = c.args in
+    let q = c.requires in
+    let f = tile_added s.p (cut_in s.g) c.tile-at.result s.alpha s.beta s.a.now s.b.now in
+    let d = begun s.p (cut_in s.g) c.tile-at.result s.named s.c.now s.d.now in
+    let b = c.start_from_c in
+    let h : Met f d c.if-thin.d c.if-thin.direct s.last (length s.d.now) =
+    elim c.if-thin.branch [
+      | then-thin w ↦ (
+        did f w.thin_tile-direct.result c.if-thin.direct b.new.d d w.d-is w.thin_tile-direct.ensures b.ensures w.direct-is,
+        λ e. absurd (not_last c.is_thin.result s.last w.if-thin.true e),
+        ap length w.d-is ∙ w.thin_tile-direct.auto.d ∙ b.auto.d,
+      )
+      | else-thin w ↦ (did f false c.if-thin.direct b.new.d d w.d-is refl b.ensures w.direct-is, λ e. w.direct-is, ap length w.d-is ∙ b.auto.d)
+    ] in
+    (
       q.0,
-      tile_begins q.0 q.1 c.tile.ensures,
-      subst (OutputClear _ _ D) (sym (here c.before.before.before.before.before.before.before.before.before.before).2) (out_clear q.2),
+      tile_begins q.0 q.1 c.tile-at.ensures,
+      subst (OutputClear _ _ D) (sym h.2) (out_clear q.2),
       rw (c.renew_b.auto.work, c.pack_a.auto.work) q.3,
     )
 
 pub returns : goal.returns
 returns c =
-    let s = k.args in
-    let q = k.requires in
+    let s = c.args in
+    let q = c.requires in
     let G = cut_in s.g in
-    let t = c.tile.ensures in
-    let x = c.tile.result in
+    let t = c.tile-at.ensures in
+    let x = c.tile-at.result in
     let e = c.renew_b.ensures ∙ ap (renewed s.p G x s.held s.b.now) c.pack_a.ensures in
-    let h = subst (HeldAfter s.p G s.a.now s.b.now s.n s.work.now) (sym e)
-    (held_after s.p G s.a.now s.b.now t (some_rows G q.1) s.held s.work.now q.3 q.4) in (
-      tile_stepped s.p t s.a.now s.b.now h.blocks c.multiply_into_d.ensures
-          ∙ ap (tile_step _ _) (rw c.if2.false at (here c.before.before.before.before.before.before.before.before.before.before.before.before.before).0)
+    let k = subst (HeldAfter s.p G s.a.now s.b.now s.n s.work.now) (sym e)
+    (held_after s.p G s.a.now s.b.now t (some_rows G q.1) s.held s.work.now q.3 q.4) in
+    let f = tile_added s.p (cut_in s.g) c.tile-at.result s.alpha s.beta s.a.now s.b.now in
+    let d = begun s.p (cut_in s.g) c.tile-at.result s.named s.c.now s.d.now in
+    let b = c.start_from_c in
+    let h : Met f d c.if-thin.d c.if-thin.direct s.last (length s.d.now) =
+    elim c.if-thin.branch [
+      | then-thin w ↦ (
+        did f w.thin_tile-direct.result c.if-thin.direct b.new.d d w.d-is w.thin_tile-direct.ensures b.ensures w.direct-is,
+        λ e. absurd (not_last c.is_thin.result s.last w.if-thin.true e),
+        ap length w.d-is ∙ w.thin_tile-direct.auto.d ∙ b.auto.d,
+      )
+      | else-thin w ↦ (did f false c.if-thin.direct b.new.d d w.d-is refl b.ensures w.direct-is, λ e. w.direct-is, ap length w.d-is ∙ b.auto.d)
+    ] in
+    (
+      tile_stepped s.p t s.a.now s.b.now k.blocks c.multiply_into_d.ensures
+          ∙ ap (tile_step _ _) (rw c.if-direct.false at h.0)
           ∙ tile_started s.p t q.1 s.alpha s.beta s.a.now s.b.now s.c.now s.d.now q.2.places s.named,
-      record { held = λ z. h; same = λ z. absurd (true≢false z); end = λ z. refl },
+      record { held = λ z. k; same = λ z. absurd (true≢false z); end = λ z. refl },
     )
