@@ -1,2 +1,3 @@
 pub mod PackedWork
 pub mod WorkCases
+mod TilesRun
