@@ -29,8 +29,7 @@ use Rattle.tiled.specs.TileCall.{state_call}
 use Rattle.accept.proofs.AcceptQuestions.{asked}
 use Rattle.accept.proofs.Accepted.{none_refused, grid_cut}
 use Rattle.tiled.proofs.TileAnswered.{state_early, state_late, state_found}
-use Rattle.tiled.proofs.call.state.Statement.{statement}
-use Rattle.tiled.proofs.call.state.Tie as tie
+use Rattle.tiled.proofs.call.state.Goals as goal
 
 -- n is the number that `Accept::of` answered; questions 12 and 13 are asked of the grid's cut, which is the contraction's
 module _ (c : Contraction) (z : Sizes) (w : Slices) {n : ℕ} (e : n ≡ refusal (layout_questions (tensors c) (lengths_in c w) ++ size_question z)) (y : n ≡ 0)
@@ -58,58 +57,34 @@ module _ (c : Contraction) (z : Sizes) (w : Slices) {n : ℕ} (e : n ≡ refusal
   found : {s : State} → k ≡ 0 → s ≡ state_at (cut_in g) t h i j → is s ≡ state_call c z w t h i j
   found x f = ap is (f ∙ ap (λ (G : Cut). state_at G t h i j) cut) ∙ state_found c z w t h i j (none_refused c z w e y) late x
 
--- the slices as they were handed in
-abbrev lent : tie.Start → Slices
-lent s = four s.args.a.now s.args.b.now s.args.c.now s.args.d.now
+pub returns-then-number-ne0 : goal.returns-then-number-ne0
+returns-then-number-ne0 c =
+    let x = c.args in
+    state_early x.k x.z (four c.args.a.now c.args.b.now c.args.c.now c.args.d.now) x.done x.h x.i x.j
+    (asked x.k x.z (four c.args.a.now c.args.b.now c.args.c.now c.args.d.now) c.of-x.ensures.number) c.if-number-ne0.true
 
-of-requires : tie.Need-of-requires
-of-requires c κs = search rules
+pub returns-then-number-ne0-2 : goal.returns-then-number-ne0-2
+returns-then-number-ne0-2 c =
+    let r = c.of-x in
+    let x = c.args in
+    late_no x.k x.z (four c.args.a.now c.args.b.now c.args.c.now c.args.d.now) r.ensures.number c.if-number-ne0.false
+    r.result.plan (r.ensures.plan c.if-number-ne0.false) r.result.grid (r.ensures.grid c.if-number-ne0.false) x.done x.h x.i x.j
+    c.state_refusal-number.ensures c.if-number-ne0-2.true
 
-returns : tie.Need-returns
+pub state-requires : goal.state-requires
+state-requires c =
+    let r = c.of-x in
+    let x = c.args in
+    let inside = index_inside x.k x.z (four c.args.a.now c.args.b.now c.args.c.now c.args.d.now) r.ensures.number c.if-number-ne0.false
+    r.result.plan (r.ensures.plan c.if-number-ne0.false) r.result.grid (r.ensures.grid c.if-number-ne0.false) x.done x.h x.i x.j
+    c.state_refusal-number.ensures c.if-number-ne0-2.false in
+    ((r.ensures.grid c.if-number-ne0.false).0.counted, inside.0, inside.1, inside.2)
+
+pub returns : goal.returns
 returns c =
-    let s = c.before.before.before.before.before.before in
-    let x = s.args in
-    state_early x.k x.z (lent s) x.done x.h x.i x.j
-    (asked x.k x.z (lent s) c.before.of.ensures.number) c.if1.true
-
-state-refusal-requires : tie.Need-state-refusal-requires
-state-refusal-requires c κs = let ten = c.before in (ten.before.of.ensures.grid ten.if1.false).0.counted
-
-returns-2 : tie.Need-returns-2
-returns-2 c =
-    let ten = c.before.before.before in
-    let r = ten.before.of in
-    let s = ten.before.before.before.before.before.before in
-    let x = s.args in
-    late_no x.k x.z (lent s) r.ensures.number ten.if1.false
-    r.result.plan (r.ensures.plan ten.if1.false) r.result.grid (r.ensures.grid ten.if1.false) x.done x.h x.i x.j
-    c.before.state-refusal.ensures c.if2.true
-
-state-requires : tie.Need-state-requires
-state-requires c κs =
-    let ten = c.before.before.before in
-    let r = ten.before.of in
-    let s = ten.before.before.before.before.before.before in
-    let x = s.args in
-    let inside = index_inside x.k x.z (lent s) r.ensures.number ten.if1.false
-    r.result.plan (r.ensures.plan ten.if1.false) r.result.grid (r.ensures.grid ten.if1.false) x.done x.h x.i x.j
-    c.before.state-refusal.ensures c.if2.false in
-    ((r.ensures.grid ten.if1.false).0.counted, inside.0, inside.1, inside.2)
-
-answer-of-requires : tie.Need-answer-of-requires
-answer-of-requires c κs = search rules
-
-returns-3 : tie.Need-returns-3
-returns-3 c =
-    let all = c.before.before in
-    let ten = all.before.before.before in
-    let r = ten.before.of in
-    let s = ten.before.before.before.before.before.before in
-    let x = s.args in
-    c.answer-of.ensures
-    ∙ found x.k x.z (lent s) r.ensures.number ten.if1.false
-    r.result.plan (r.ensures.plan ten.if1.false) r.result.grid (r.ensures.grid ten.if1.false) x.done x.h x.i x.j
-    all.before.state-refusal.ensures all.if2.false c.before.state.ensures
-
-pub state_spec : {M : Type 1} → statement M
-state_spec = tie.close (tie.spec of-requires returns state-refusal-requires returns-2 state-requires answer-of-requires returns-3)
+    let r = c.of-x in
+    let x = c.args in
+    c.answer_of.ensures
+    ∙ found x.k x.z (four c.args.a.now c.args.b.now c.args.c.now c.args.d.now) r.ensures.number c.if-number-ne0.false
+    r.result.plan (r.ensures.plan c.if-number-ne0.false) r.result.grid (r.ensures.grid c.if-number-ne0.false) x.done x.h x.i x.j
+    c.state_refusal-number.ensures c.if-number-ne0-2.false c.state.ensures

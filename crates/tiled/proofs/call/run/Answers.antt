@@ -36,8 +36,7 @@ use Rattle.accept.proofs.Accepted.{none_refused, grid_cut}
 use Rattle.accept.proofs.Soundness.{clear}
 use Rattle.tiled.proofs.TileAnswered.{tile_early, tile_late, tile_ran}
 use Rattle.tiled.proofs.Agrees.{walk_agrees, work_agrees}
-use Rattle.tiled.proofs.call.run.Statement.{statement}
-use Rattle.tiled.proofs.call.run.Tie as tie
+use Rattle.tiled.proofs.call.run.Goals as goal
 
 tiles_counted : (t n : ℕ) → length (tiles_from t n) ≡ n
 unfolding tiles_from
@@ -101,79 +100,41 @@ module _ (c : Contraction) (z : Sizes) (w : Slices) {n : ℕ} (e : n ≡ refusal
           ew ∙ ap (λ (G : Cut). packed_last G (read_in p (w A) (w B)) (tiles_from t count) work) cut ∙ work_agrees c z w ok p q (tiles_from t count) below work in
           rw (done, words, packs, m, whole) (tile_ran c z w work t budget ten late x)
 
--- the slices as they were handed in
-abbrev lent : tie.Start → Slices
-lent s = four s.args.a.now s.args.b.now s.args.c.now s.args.d.now
+pub returns-then-number-ne0 : goal.returns-then-number-ne0
+returns-then-number-ne0 c =
+    let x = c.args in
+    tile_early x.k x.z (four c.args.a.now c.args.b.now c.args.c.now c.args.d.now) x.work.now x.done x.budget
+    (asked x.k x.z (four c.args.a.now c.args.b.now c.args.c.now c.args.d.now) c.of-x.ensures.number) c.if-number-ne0.true
 
-of-requires : tie.Need-of-requires
-of-requires c κs = search rules
+pub returns-then-number-ne0-2 : goal.returns-then-number-ne0-2
+returns-then-number-ne0-2 c =
+    let r = c.of-x in
+    let x = c.args in
+    late_no x.k x.z (four c.args.a.now c.args.b.now c.args.c.now c.args.d.now) r.ensures.number c.if-number-ne0.false
+    r.result.plan (r.ensures.plan c.if-number-ne0.false) r.result.grid (r.ensures.grid c.if-number-ne0.false) x.work.now x.done
+    c.tile_refusal-number.ensures x.budget c.if-number-ne0-2.true
 
-returns : tie.Need-returns
+pub overflow_sub-left : goal.overflow_sub-left
+overflow_sub-left c =
+    let r = c.of-x in
+    let x = c.args in
+    t_below x.k x.z (four c.args.a.now c.args.b.now c.args.c.now c.args.d.now) r.ensures.number c.if-number-ne0.false
+    r.result.plan (r.ensures.plan c.if-number-ne0.false) r.result.grid (r.ensures.grid c.if-number-ne0.false) x.work.now x.done
+    c.tile_refusal-number.ensures c.if-number-ne0-2.false
+
+pub run_tiles-t-requires : goal.run_tiles-t-requires
+run_tiles-t-requires c =
+    let r = c.of-x in
+    let x = c.args in
+    run_asks x.k x.z (four c.args.a.now c.args.b.now c.args.c.now c.args.d.now) r.ensures.number c.if-number-ne0.false
+    r.result.plan (r.ensures.plan c.if-number-ne0.false) r.result.grid (r.ensures.grid c.if-number-ne0.false) x.work.now x.done
+    c.tile_refusal-number.ensures c.if-number-ne0-2.false x.budget _ c.smaller-count.ensures
+
+pub returns : goal.returns
 returns c =
-    let s = c.before.before.before.before.before.before.before in
-    let x = s.args in
-    tile_early x.k x.z (lent s) x.work.now x.done x.budget
-    (asked x.k x.z (lent s) c.before.of.ensures.number) c.if1.true
-
-tile-refusal-requires : tie.Need-tile-refusal-requires
-tile-refusal-requires c κs = let ten = c.before in (ten.before.of.ensures.grid ten.if1.false).0.counted
-
-returns-2 : tie.Need-returns-2
-returns-2 c =
-    let ten = c.before.before.before in
-    let r = ten.before.of in
-    let s = ten.before.before.before.before.before.before.before in
-    let x = s.args in
-    late_no x.k x.z (lent s) r.ensures.number ten.if1.false
-    r.result.plan (r.ensures.plan ten.if1.false) r.result.grid (r.ensures.grid ten.if1.false) x.work.now x.done
-    c.before.tile-refusal.ensures x.budget c.if2.true
-
-sub-left : tie.Need-overflow-sub-left
-sub-left c =
-    let ten = c.before.before.before in
-    let r = ten.before.of in
-    let s = ten.before.before.before.before.before.before.before in
-    let x = s.args in
-    t_below x.k x.z (lent s) r.ensures.number ten.if1.false
-    r.result.plan (r.ensures.plan ten.if1.false) r.result.grid (r.ensures.grid ten.if1.false) x.work.now x.done
-    c.before.tile-refusal.ensures c.if2.false
-
-smaller-requires : tie.Need-smaller-requires
-smaller-requires c κs = search rules
-
-run-tiles-requires : tie.Need-run-tiles-requires
-run-tiles-requires c κs =
-    let counted = c.before.before in
-    let all = counted.before in
-    let ten = all.before.before.before in
-    let r = ten.before.of in
-    let s = ten.before.before.before.before.before.before.before in
-    let x = s.args in
-    run_asks x.k x.z (lent s) r.ensures.number ten.if1.false
-    r.result.plan (r.ensures.plan ten.if1.false) r.result.grid (r.ensures.grid ten.if1.false) x.work.now x.done
-    all.before.tile-refusal.ensures all.if2.false x.budget _ counted.smaller.ensures
-
-same_length : tie.Need-same-length
-same_length c = search rules
-
-same-length-2 : tie.Need-same-length-2
-same-length-2 c = search rules
-
-returns-3 : tie.Need-returns-3
-returns-3 c =
-    let tiles = c.before.before.before.before in
-    let counted = tiles.before.before.before in
-    let all = counted.before in
-    let ten = all.before.before.before in
-    let r = ten.before.of in
-    let s = ten.before.before.before.before.before.before.before in
-    let x = s.args in
-    all_ran x.k x.z (lent s) r.ensures.number ten.if1.false
-    r.result.plan (r.ensures.plan ten.if1.false) r.result.grid (r.ensures.grid ten.if1.false) x.work.now x.done
-    all.before.tile-refusal.ensures all.if2.false x.budget _ counted.smaller.ensures
-    tiles.run-tiles.ensures.0 tiles.run-tiles.ensures.1 tiles.run-tiles.ensures.2
-
-pub run_spec : {M : Type 1} → statement M
-run_spec =
-    tie.close
-    (tie.spec of-requires returns tile-refusal-requires returns-2 sub-left smaller-requires run-tiles-requires same_length same-length-2 returns-3)
+    let r = c.of-x in
+    let x = c.args in
+    all_ran x.k x.z (four c.args.a.now c.args.b.now c.args.c.now c.args.d.now) r.ensures.number c.if-number-ne0.false
+    r.result.plan (r.ensures.plan c.if-number-ne0.false) r.result.grid (r.ensures.grid c.if-number-ne0.false) x.work.now x.done
+    c.tile_refusal-number.ensures c.if-number-ne0-2.false x.budget _ c.smaller-count.ensures
+    c.run_tiles-t.ensures.0 c.run_tiles-t.ensures.1 c.run_tiles-t.ensures.2
