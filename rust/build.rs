@@ -19,7 +19,7 @@ fn main() {
     let archive = folder.join("libnezgrak.a");
     println!("cargo:rerun-if-changed={}", archive.display());
     if !archive.is_file() {
-        eprintln!("{} is missing: `rt staticlib nezgrak`, in the repository, makes it", archive.display());
+        eprintln!("{} is missing: `make archive`, in the repository, makes it", archive.display());
         exit(1);
     }
     println!("cargo:rustc-link-search=native={}", folder.display());

@@ -1,4 +1,6 @@
-"""Checks the repository's own files: python3 tests/gate, and once rt has proved the crates and tried the must-fail edits, python3 tests/gate walks and refusals
+"""Checks the repository's own files: python3 tests/gate
+
+Once rt ci has passed: python3 tests/gate refusals <SAID, what it said, and after make archive program python3 tests/gate walks.
 
 Prints a line `ok NAME` for each check. At the first that fails there is a message on standard error and status 1.
 """
@@ -11,7 +13,7 @@ sys.path.insert(1, os.path.dirname(FOLDER))
 
 from checking import modules_of, status_of  # noqa: E402
 
-AFTER = ["refusals", "walks"]  # what needs what rt left
+AFTER = ["refusals", "walks"]  # what needs what rt said or left
 
 
 def main():

@@ -15,5 +15,22 @@ def contents(path):
         raise Failed(f"{path}: {error}") from None
 
 
+def crate_lines():
+    """The line of crates.txt for each crate."""
+    lines = [line.partition("#")[0].strip() for line in contents("crates.txt").split("\n")]
+    return {line.replace(":", " ").split()[0]: line for line in lines if line}
+
+
 def listed_crates():
-    return [line.partition(":")[0] for line in contents("crates.txt").split("\n") if line and not line.startswith("#")]
+    return list(crate_lines())
+
+
+def crates_below(crate):
+    """The crates of the repository that a crate uses, directly or by others, and itself."""
+    lines, found, left = crate_lines(), set(), [crate]
+    while left:
+        name = left.pop()
+        if name in lines and name not in found:
+            found.add(name)
+            left += lines[name].partition(":")[2].split()
+    return found

@@ -11,7 +11,7 @@ import re
 from checking import expect
 from files import ROOT, contents, listed_crates
 
-# The outside calls, beside those of crates/nezgrak that are marked #[no_mangle].
+# The outside calls, beside those of crates/nezgrak that are marked #[unsafe(no_mangle)].
 CALLS = [
     ("crates/layout/src/layout.rt", "new"),
     ("crates/contraction/src/contraction.rt", "of"),
@@ -40,7 +40,7 @@ STATEMENTS = [
     "crates/states/specs/StateLetters.antt",
     "crates/edges/specs/Pinned.antt",
 ]
-USE = re.compile(r"^(?:ghost )?use Rattle·(\w+)(?:·specs)?\.specs\.([\w.]+)\.\{([^}]*)\}", re.M)
+USE = re.compile(r"^(?:ghost )?use Rattle\.(\w+)\.specs\.([\w.]+)\.\{([^}]*)\}", re.M)
 START = re.compile(r" *(?:(?:(?:pub|abbrev|unfoldable|record|data) +)+|(?=\S+ : ))([^\s:]+)")
 CONSTRUCTORS = re.compile(r" +([^():→]+) : ")
 NAME = re.compile(r"(?<![.\w])[^\s(){}\[\];,.:=λ→×]+")
@@ -106,7 +106,7 @@ def contract_of(path, function):
 
 def flat_calls():
     for path in sorted(glob.glob("crates/nezgrak/src/*.rt", root_dir=ROOT)):
-        for function in re.findall(r"#\[no_mangle\]\npub extern \"C\" fn (\w+)\(", contents(path)):
+        for function in re.findall(r"#\[unsafe\(no_mangle\)\]\npub extern \"C\" fn (\w+)\(", contents(path)):
             yield path, function
 
 
@@ -148,7 +148,7 @@ def listed():
 
 def check_reading_list():
     flat = list(flat_calls())
-    expect(len(flat) >= 7, "crates/nezgrak/src has", len(flat), "functions that are marked #[no_mangle]")
+    expect(len(flat) >= 7, "crates/nezgrak/src has", len(flat), "functions that are marked #[unsafe(no_mangle)]")
     calls = CALLS + flat
     names = [name for call in calls for name in contract_of(*call)]
     names += [(path, name) for path in STATEMENTS for name in Definitions(path).texts]

@@ -1,29 +1,52 @@
-"""How long rt took for each crate, by what it printed: python3 tests/gate/times.py <OUTPUT
+"""What rt ci did for each crate, by what it prints: rt ci 2>&1 | python3 tests/gate/times.py SAID TABLE
 
-A crate's seconds are those of its own check, and of its must-fail edits all together. Several run at a time, so that they add up to more than the wall clock.
+Hands on each line as it comes, but for the last one, and writes all of them to the file SAID. The file TABLE gets a line for each crate: after how many seconds
+it was proved (rt says no longer how long a crate took; several are proved at a time, each once those that it uses are), or `kept`, where an earlier run
+on this machine had proved the same files; how many functions were proved in this run; and how many must-fail edits were refused.
 """
 
-import collections
 import re
 import sys
+import time
 
-PROVED = re.compile(r"^rt: (\w+) proved \((\d+) s\)$", re.M)
-TRIED = re.compile(r"^rt: must-fail (\w+)/\w+: .*?(\d+) s\)$", re.M)
+BEGUN = re.compile(r"== (\w+)(: its tests)?$")
+FUNCTIONS = re.compile(r"logic=proved .*?\bfunctions=(\d+)")
+ENDED = re.compile(r"rt: (\w+) (?:(proved)|(is kept): .*)$")
+REFUSED = re.compile(r"rt: must-fail (\w+)/\S+: refused, as it must be")
 
 
-def rows(said):
-    proofs = {crate: int(seconds) for crate, seconds in PROVED.findall(said)}
-    edits = collections.defaultdict(list)
-    for crate, seconds in TRIED.findall(said):
-        edits[crate].append(int(seconds))
-    for crate in [*proofs, *(crate for crate in edits if crate not in proofs)]:
-        yield crate, proofs.get(crate, 0), sum(edits[crate]), len(edits[crate])
+class Table:
+    def __init__(self):
+        self.began, self.crate, self.functions, self.rows, self.edits = time.monotonic(), None, {}, {}, {}
+
+    def read(self, line):
+        if found := BEGUN.match(line):
+            self.crate = None if found[2] else found[1]
+        elif (found := FUNCTIONS.match(line)) and self.crate:
+            self.functions[self.crate] = int(found[1])
+        elif found := ENDED.match(line):
+            self.rows[found[1]] = "kept" if found[3] else f"{time.monotonic() - self.began:.0f} s"
+        elif found := REFUSED.match(line):
+            self.edits[found[1]] = self.edits.get(found[1], 0) + 1
+
+    def lines(self):
+        for crate, row in self.rows.items():
+            yield f"{row:>7} {self.functions.get(crate, '-'):>4} {self.edits.get(crate, 0):>4}  {crate}\n"
+        yield f"{'':7} {sum(self.functions.values()):4} {sum(self.edits.values()):4}  all\n"
 
 
 def main():
-    table = list(rows(sys.stdin.read()))
-    for crate, proofs, edits, count in table + [("all", *(sum(row[i] for row in table) for i in (1, 2, 3)))]:
-        print(f"{proofs:5} s {edits:5} s {count:4}  {crate}")
+    table, held = Table(), ""
+    sys.stdin.reconfigure(encoding="utf-8", errors="replace")
+    sys.stdout.reconfigure(encoding="utf-8")
+    with open(sys.argv[1], "w", encoding="utf-8") as said:
+        for line in sys.stdin:
+            said.write(line)
+            table.read(line)
+            print(held, end="", flush=True)
+            held = line
+    with open(sys.argv[2], "w", encoding="utf-8") as file:
+        file.writelines(table.lines())
 
 
 if __name__ == "__main__":

@@ -28,7 +28,7 @@ fn path() -> PathBuf {
         Some(named) => PathBuf::from(named),
         None => PathBuf::from(env!("CARGO_MANIFEST_DIR")).join("../target/bin/nezgrak_job"),
     };
-    assert!(path.is_file(), "{} is missing: `rt check nezgrak_job`, in the repository, makes it", path.display());
+    assert!(path.is_file(), "{} is missing: `make program`, in the repository, makes it", path.display());
     path
 }
 
