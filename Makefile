@@ -1,5 +1,6 @@
 # make run: builds the job program, which proves all that it uses, and runs it on an example; make run JOB=FILE on another job file.
 # make test: runs rt ci, which proves every crate and tries the must-fail edits, and then every test. Its last line is 'N passed, 0 failed', or it fails.
+# make archive, make program: prove and build target/staticlib/libnezgrak.a and target/bin/nezgrak_job.
 # make example: makes the archive, then builds and runs the examples; each prints the same lines in C and in Rust.
 # make bench: makes the archive, then measures both engines and the delay call beside loops in Rust. Prints the tables, puts them and the plots into docs/; fails where a required ratio is missed.
 # make bench BEFORE=ARCHIVE: beside the archive of another commit too, a copy of its target/staticlib/libnezgrak.a. That needs objcopy.
