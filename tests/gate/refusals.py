@@ -1,8 +1,8 @@
 """Why each must-fail edit was refused, by what rt ci said of it: python3 tests/gate refusals <SAID. A fact must fail. That the proofs no longer fit the code is no reason.
 
 rt ci has a line for each edit: the first thing that its check found and that is more than a name that the edit took away, cut off after 160 characters. A wrong
-rule has to be refused by a case that quotes the rule. Where that line tells of something else, the crate is checked once more with the edit, in a copy, and
-all that the check says is read.
+rule has to be refused by a case that quotes the rule. Where that line tells of something else, or of a proof that is left with a gap, the crate is checked once
+more with the edit, in a copy, and all that the check says is read.
 """
 
 import os
@@ -20,8 +20,9 @@ SAID = re.compile(r"^rt: must-fail (\w+)/(\w+)\.edit: (.*)$", re.M)
 REFUSED = "refused, as it must be: "
 # An error: its file, the declaration that it is about, what it says, and the lines in which that goes on.
 ERROR = re.compile(r"^(?:\./)?(\S+?):\d+:\d+: error: (?:`([^`]*)`: )?(.*(?:\n  .*)*)", re.M)
-# What only follows from another error.
+# What only follows from another error, and a gap, of which nothing is said but that it is there.
 FOLLOWS = re.compile(r"`[^`]*` was not admitted|\d+ declarations? that depends? on ")
+GAP = re.compile(r"`[^`]*` is not admitted: unsolved")
 # What is said of a proof that was written for other code: names that are gone, terms where something else belongs.
 MISFIT = re.compile(
     r"(?:`[^`]*`: )?(?:"
@@ -48,13 +49,18 @@ def flaw(crate, name, said):
         return said or "rt ci said nothing of it"
     reason = said.removeprefix(REFUSED)
     error = ERROR.match(reason)
-    if error and is_misfit(*error.groups()):
+    has_gap = error and GAP.match(error[3])
+    if error and not has_gap and is_misfit(*error.groups()):
         return f"the proofs no longer fit: {reason}"
     if not error and not UNPROVED.match(reason):
         return f"no error shows a fact that fails: {reason}"
-    if changes_rule(crate, name) and not (error and CASES.match(error[1])) and not refused_by_case(crate, name):
+    of_rule = changes_rule(crate, name)
+    if not has_gap and not (of_rule and not (error and CASES.match(error[1]))):
+        return None
+    facts = facts_that_fail(crate, name)
+    if of_rule and not any(CASES.match(path) for path in facts):
         return "it changes a definition and its code, and no case that quotes the rule refuses it"
-    return None
+    return None if facts else f"no error shows a fact that fails: {reason}"
 
 
 def changes_rule(crate, name):
@@ -62,8 +68,8 @@ def changes_rule(crate, name):
     return "\nfile: specs/" in contents(f"crates/{crate}/must-fail/{name}.edit")
 
 
-def refused_by_case(crate, name):
-    """Whether a case fails that quotes a rule, by all that a check of the crate with this edit says."""
+def facts_that_fail(crate, name):
+    """The files of proofs/ with a fact that fails, by all that a check of the crate with this edit says."""
     lines, below = crate_lines(), crates_below(crate)
     with tempfile.TemporaryDirectory(prefix="nezgrak-edit-") as room:
         for it in below:
@@ -75,8 +81,8 @@ def refused_by_case(crate, name):
                 file.write(text)
         how = {"stdin": subprocess.DEVNULL, "stdout": subprocess.PIPE, "stderr": subprocess.STDOUT, "encoding": "utf-8", "errors": "replace"}
         ended = subprocess.run(["rt", "check"], cwd=os.path.join(room, "crates", crate), check=False, **how)
-    errors = [error for error in ERROR.findall(ended.stdout) if not FOLLOWS.match(error[2])]
-    return ended.returncode == 1 and any(CASES.match(path) and not is_misfit(path, *more) for path, *more in errors)
+    errors = [error for error in ERROR.findall(ended.stdout) if not FOLLOWS.match(error[2])] if ended.returncode == 1 else []
+    return [path for path, *more in errors if not is_misfit(path, *more)]
 
 
 def check_refusals():
