@@ -1,7 +1,7 @@
 -- Axes that stand in a list already add nothing behind it: no label, and no extent of one. So it is where C is not named and D stands for it.
 -- Assumes nothing.
 use mathlib.Core.Path.{◌≡◌, refl, sym, ap, ◌∙◌}
-use mathlib.Core.Bool.{Bool, true, false, cond, ◌||◌, true≢false}
+use mathlib.Core.Bool.{Bool, true, false, cond}
 use mathlib.Core.List.{List, [], ◌∷◌, ◌++◌, append-nil, append_assoc, map-append}
 use Prim.Native.Nat.{ℕ, ◌≤◌}
 use native.Mathlib.Omega.{arith}
@@ -9,7 +9,7 @@ use lib.Dec.{eqb}
 use lib.ListN.{length, length-map}
 use Rattle.words.specs.Sums.{All}
 use Rattle.words.specs.Lists.{member, distinct}
-use Rattle.words.proofs.Lists.{all_imp, all_map, covers, eqb-true, eqb_self, eqb_flip, member_distinct, member_append, distinct_short}
+use Rattle.words.proofs.Lists.{all_imp, all_map, covers, member_distinct, member_append, distinct_short}
 use Rattle.layout.specs.declared.layout.Axis.{Axis}
 use Rattle.layout.specs.Layout.{letters_of}
 use Rattle.labels.specs.Labels.{extent_of, labels}

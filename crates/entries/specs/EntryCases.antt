@@ -1,6 +1,6 @@
 -- Questions 8 and 9 of tensors with entries and without.
 -- Assumes nothing.
-use Rattle.std.specs.Prelude.{ℕ, ◌≡◌, true, false, List, [], ◌∷◌, ℤ, pos, negsuc}
+use Rattle.std.specs.Prelude.{ℕ, ◌≡◌, true, false, List, [], ◌∷◌, pos, negsuc}
 use Rattle.layout.specs.declared.layout.Axis.{Axis}
 use Rattle.entries.specs.EntryQuestions.{inside, apart}
 

@@ -9,7 +9,6 @@ use native.Mathlib.Omega.{arith}
 use borrow.Author.Tests.{lt-ltb}
 use lib.Dec.{ltb}
 use lib.ListN.{length, get_or, set}
-use Rattle.words.specs.Sums.{All}
 use Rattle.words.proofs.Lists.{all_split}
 use Rattle.limits.specs.Limits.{product_limit}
 use Rattle.groups.specs.declared.groups.Dim.{Dim}

@@ -8,7 +8,6 @@ use lib.IntN.{ℤ}
 use Rattle.words.specs.Lists.{first_of}
 use Rattle.words.specs.Words.{word_of, signed}
 use Rattle.words.proofs.Tabulate.{first_of_suc, first_of_push, length_first_of}
-use Rattle.layout.specs.Listed.{listed}
 use Rattle.labels.specs.Labels.{stride_of, extent_of}
 use Rattle.labels.proofs.Facts.{signed_stride}
 use Rattle.contraction.specs.declared.operands.Operands.{Operands}

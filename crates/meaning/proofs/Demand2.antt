@@ -5,7 +5,6 @@ use mathlib.Core.Path.{◌≡◌, refl, ap, ◌∙◌}
 use mathlib.Core.Bool.{false}
 use Prim.Native.Nat.{ℕ, zero, suc, ◌+◌, ◌*◌, ◌<◌}
 use native.Mathlib.Nat.{mul-zero, zero-add, zero-lt-suc}
-use lib.ListN.{length, get_or}
 use Rattle.words.specs.Sums.{sum_to}
 use Rattle.words.specs.Words.{word}
 use Rattle.words.specs.Loops.{each, overwrite}

@@ -1,6 +1,6 @@
 -- The addresses that are carried along a label of extent 2 and one of extent 3 behind it.
 -- Assumes nothing.
-use Rattle.std.specs.Prelude.{◌≡◌, ℕ, List, [], ◌∷◌, ℤ, pos, negsuc}
+use Rattle.std.specs.Prelude.{◌≡◌, List, [], ◌∷◌, ℤ, pos, negsuc}
 use Rattle.words.specs.Lists.{tabulate}
 use Rattle.contraction.specs.Operands.{C}
 use Rattle.groups.specs.Groups.{Label}

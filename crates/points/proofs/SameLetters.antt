@@ -1,10 +1,9 @@
 -- Question 30 by the letter sets: a set has a letter just where the axes do. What has the same letters has them as itself.
 -- Assumes nothing.
-use mathlib.Core.Path.{◌≡◌, refl, ◌∙◌}
-use mathlib.Core.Bool.{Bool, true, ◌&&◌}
-use mathlib.Core.List.{List, [], ◌∷◌}
-use lib.Dec.{T}
-use Rattle.words.specs.Sums.{every, All}
+use mathlib.Core.Path.{◌≡◌, ◌∙◌}
+use mathlib.Core.Bool.{true}
+use mathlib.Core.List.{List}
+use Rattle.words.specs.Sums.{every}
 use Rattle.words.specs.Lists.{member}
 use Rattle.words.proofs.Lists.{T_true, all_imp, covers, member_once}
 use Rattle.words.proofs.Sums.{every_all, all_every, every_same}

@@ -11,7 +11,6 @@ use Rattle.words.proofs.Lists.{all_of}
 use Rattle.words.proofs.Sums.{every_and, every_same}
 use Rattle.limits.specs.Limits.{product_limit}
 use Rattle.layout.specs.declared.layout.Axis.{Axis}
-use Rattle.layout.specs.declared.layout.Layout.{Layout}
 use Rattle.layout.specs.Layout.{axes}
 use Rattle.validity.specs.TensorQuestions.{rank_fits, counts_match, letters_valid, extents_valid, sizes_valid}
 use Rattle.labels.specs.Labels.{extent_of, labels}

@@ -1,6 +1,6 @@
 -- A slice that a loop fills in order: its front is what was put there, and in the end all of it.
 -- Assumes nothing.
-use Rattle.std.proofs.Common.{◌≡◌, ℕ, ◌+◌, ◌-◌, ◌<◌, ◌≤◌, List, length, set, sym, refl, ap, ◌∙◌, arith, length-set}
+use Rattle.std.proofs.Common.{◌≡◌, ℕ, ◌+◌, ◌<◌, ◌≤◌, List, length, set, sym, refl, ap, ◌∙◌, arith, length-set}
 use Rattle.words.specs.Lists.{tabulate}
 use Rattle.words.specs.Fronts.{front}
 use Rattle.words.proofs.Fronts.{front_none, front_set, front_all}

@@ -28,15 +28,14 @@ turn len m r body d₀ i j = rw mul-add (j ∙ ap (each (len * r) (λ v. body (l
 
 pub loop-m-init : goal.loop-m-init
 unfolding each
-loop-m-init c =
-    (
-      omega arith,
-      refl,
-      refl,
-      rw mul-zero,
-      λ h. first_run _ _ c.requires.outputs c.tabulate-labels.ensures c.args.base
-          (words_fit c.args.base.words _ c.well_formed.1.1.1.1.1.1.1.0.1.1.0.1.1),
-    )
+loop-m-init c = (
+  omega arith,
+  refl,
+  refl,
+  rw mul-zero,
+  λ h. first_run _ _ c.requires.outputs c.tabulate-labels.ensures c.args.base
+      (words_fit c.args.base.words _ c.well_formed.1.1.1.1.1.1.1.0.1.1.0.1.1),
+)
 
 pub loop-m-preserved : goal.loop-m-preserved
 loop-m-preserved c =

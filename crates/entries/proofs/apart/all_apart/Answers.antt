@@ -2,7 +2,6 @@
 -- Assumes nothing.
 use mathlib.Core.Path.{sym}
 use mathlib.Core.Bool.{not, or-true, or-false}
-use borrow.Author.Rules.{rules}
 use Rattle.layout.specs.Listed.{listed}
 use Rattle.entries.specs.EntryQuestions.{has_entries, apart}
 use Rattle.entries.proofs.apart.all_apart.Goals as goal

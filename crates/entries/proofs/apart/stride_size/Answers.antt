@@ -3,7 +3,6 @@
 use mathlib.Core.Path.{◌≡◌, sym}
 use Prim.Native.Nat.{◌+◌, ◌^◌, ◌<◌}
 use native.Mathlib.Omega.{arith}
-use borrow.Author.Rules.{rules}
 use Rattle.words.proofs.Whole.{size_parts}
 use Rattle.layout.specs.Listed.{listed}
 use Rattle.labels.specs.Labels.{stride_of}

@@ -2,17 +2,10 @@
 -- test of the labels from i on. The measure is i.
 -- Assumes nothing.
 use mathlib.Core.Path.{◌≡◌}
-use mathlib.Core.Bool.{◌||◌}
-use Prim.Native.Nat.{◌≤◌}
 use native.Mathlib.Omega.{arith}
-use borrow.Author.Rules.{rules}
-use lib.Dec.{leb, ltb}
-use Rattle.words.specs.Sums.{every}
-use Rattle.words.proofs.Tabulate.{from, from_end, from_before}
-use Rattle.layout.specs.Listed.{listed}
-use Rattle.labels.specs.Labels.{extent_of}
+use Rattle.words.proofs.Tabulate.{from_end, from_before}
 use Rattle.labels.specs.LetterSets.{spelled}
-use Rattle.entries.specs.EntryQuestions.{stride_size, below, strides_apart}
+use Rattle.entries.specs.EntryQuestions.{strides_apart}
 use Rattle.entries.proofs.apart.strides_apart.Goals as goal
 
 pub loop-i-init : goal.loop-i-init

@@ -4,15 +4,12 @@
 use mathlib.Core.Path.{◌≡◌}
 use mathlib.Core.Bool.{◌||◌}
 use Prim.Native.Nat.{◌≤◌}
-use native.Mathlib.Omega.{arith}
-use borrow.Author.Rules.{rules}
 use lib.Dec.{leb, ltb}
 use Rattle.words.specs.Sums.{every}
-use Rattle.words.proofs.Tabulate.{from, from_end, from_before}
+use Rattle.words.proofs.Tabulate.{from}
 use Rattle.layout.specs.Listed.{listed}
 use Rattle.labels.specs.Labels.{extent_of}
-use Rattle.labels.specs.LetterSets.{spelled}
-use Rattle.entries.specs.EntryQuestions.{stride_size, below, strides_apart}
+use Rattle.entries.specs.EntryQuestions.{stride_size, below}
 use Rattle.entries.proofs.apart.strides_apart.Given as goal
 
 abbrev pub invariant-loop-i : goal.invariant-loop-i

@@ -2,17 +2,10 @@
 -- the labels from i on, and at most 2^48 for each of them, so it fits. The measure is i.
 -- Assumes nothing.
 use mathlib.Core.Path.{◌≡◌}
-use mathlib.Core.Bool.{not, cond, ◌&&◌}
-use Prim.Native.Nat.{◌*◌, ◌-◌, ◌^◌, ◌≤◌}
 use native.Mathlib.Omega.{arith}
-use borrow.Author.Rules.{rules}
-use lib.Dec.{eqb, leb}
-use Rattle.words.specs.Sums.{sum_of}
-use Rattle.words.proofs.Tabulate.{from, from_end, from_before}
-use Rattle.layout.specs.Listed.{listed}
-use Rattle.labels.specs.Labels.{extent_of}
+use Rattle.words.proofs.Tabulate.{from_end, from_before}
 use Rattle.labels.specs.LetterSets.{spelled}
-use Rattle.entries.specs.EntryQuestions.{stride_size, below}
+use Rattle.entries.specs.EntryQuestions.{below}
 use Rattle.entries.proofs.apart.sum_below.Goals as goal
 
 pub loop-i-init : goal.loop-i-init

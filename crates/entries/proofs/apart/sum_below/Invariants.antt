@@ -4,15 +4,12 @@
 use mathlib.Core.Path.{◌≡◌}
 use mathlib.Core.Bool.{not, cond, ◌&&◌}
 use Prim.Native.Nat.{◌*◌, ◌-◌, ◌^◌, ◌≤◌}
-use native.Mathlib.Omega.{arith}
-use borrow.Author.Rules.{rules}
 use lib.Dec.{eqb, leb}
 use Rattle.words.specs.Sums.{sum_of}
-use Rattle.words.proofs.Tabulate.{from, from_end, from_before}
+use Rattle.words.proofs.Tabulate.{from}
 use Rattle.layout.specs.Listed.{listed}
 use Rattle.labels.specs.Labels.{extent_of}
-use Rattle.labels.specs.LetterSets.{spelled}
-use Rattle.entries.specs.EntryQuestions.{stride_size, below}
+use Rattle.entries.specs.EntryQuestions.{stride_size}
 use Rattle.entries.proofs.apart.sum_below.Given as goal
 
 abbrev pub invariant-loop-i : goal.invariant-loop-i

@@ -1,6 +1,5 @@
 -- `all_inside` meets its contract: the reach down and up are the two spans that question 8 compares, where there are entries.
 -- Assumes nothing.
-use borrow.Author.Rules.{rules}
 use Rattle.entries.specs.EntryQuestions.{inside}
 use Rattle.entries.proofs.inside.all_inside.Goals as goal
 

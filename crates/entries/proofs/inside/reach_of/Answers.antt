@@ -3,14 +3,11 @@
 -- is i.
 -- Assumes nothing.
 use mathlib.Core.Path.{◌≡◌}
-use Prim.Native.Nat.{ℕ, ◌*◌, ◌-◌, ◌^◌, ◌≤◌, ◌<◌}
+use Prim.Native.Nat.{ℕ, ◌-◌, ◌^◌, ◌≤◌, ◌<◌}
 use native.Mathlib.Omega.{arith}
-use borrow.Author.Rules.{rules}
-use lib.Dec.{ltb}
 use lib.ListN.{get_or}
-use Rattle.words.specs.Sums.{sum_of, every}
 use Rattle.words.specs.Words.{up, down, signed}
-use Rattle.words.proofs.Tabulate.{from, from_end, from_before}
+use Rattle.words.proofs.Tabulate.{from_end, from_before}
 use Rattle.limits.specs.Limits.{extent_limit}
 use Rattle.layout.specs.declared.axes.Axes.{Axes}
 use Rattle.layout.specs.Listed.{listed}

@@ -3,22 +3,13 @@
 -- is i.
 -- Assumes nothing.
 use mathlib.Core.Path.{◌≡◌}
-use Prim.Native.Nat.{ℕ, ◌*◌, ◌-◌, ◌^◌, ◌≤◌, ◌<◌}
-use native.Mathlib.Omega.{arith}
-use borrow.Author.Rules.{rules}
+use Prim.Native.Nat.{◌*◌, ◌-◌, ◌^◌, ◌≤◌}
 use lib.Dec.{ltb}
-use lib.ListN.{get_or}
 use Rattle.words.specs.Sums.{sum_of, every}
-use Rattle.words.specs.Words.{up, down, signed}
-use Rattle.words.proofs.Tabulate.{from, from_end, from_before}
-use Rattle.limits.specs.Limits.{extent_limit}
-use Rattle.layout.specs.declared.axes.Axes.{Axes}
+use Rattle.words.specs.Words.{up, down}
+use Rattle.words.proofs.Tabulate.{from}
 use Rattle.layout.specs.Listed.{listed}
 use Rattle.labels.specs.Labels.{stride_of, extent_of}
-use Rattle.labels.specs.LetterSets.{spelled}
-use Rattle.labels.proofs.Facts.{extents_bound, small_up, small_down, signed_stride}
-use Rattle.entries.specs.EntryQuestions.{has_entries, span}
-use Rattle.entries.proofs.Reach.{reach_lt}
 use Rattle.entries.proofs.inside.reach_of.Given as goal
 
 abbrev pub invariant-loop-i : goal.invariant-loop-i

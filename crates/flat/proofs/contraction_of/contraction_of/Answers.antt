@@ -1,7 +1,6 @@
 -- `contraction_of` meets its contract: it makes the three layouts, and the contraction of them.
 -- Assumes nothing.
 use mathlib.Core.Bool.{false}
-use borrow.Author.Rules.{rules}
 use Rattle.flat.proofs.Made.{made}
 use Rattle.flat.proofs.contraction_of.contraction_of.Goals as goal
 

@@ -1,7 +1,6 @@
 -- `contraction_with_c` meets its contract: it makes the four layouts, and the contraction of them.
 -- Assumes nothing.
 use mathlib.Core.Bool.{true}
-use borrow.Author.Rules.{rules}
 use Rattle.flat.proofs.Made.{made}
 use Rattle.flat.proofs.contraction_of.contraction_with_c.Goals as goal
 

@@ -1,21 +1,15 @@
 -- `axes_of` meets its contract. The loop's invariant: the array has 8 places, and those before i hold the axes that the words say.
 -- The measure is what is left of the 8.
 -- Assumes nothing.
-use mathlib.Core.Path.{◌≡◌, refl, sym, ap, ◌∙◌}
+use mathlib.Core.Path.{◌≡◌}
 use mathlib.Core.List.{List, map}
 use Prim.Native.Nat.{ℕ, ◌≤◌, ◌-◌}
-use native.Mathlib.Numerals.{add-one}
-use native.Mathlib.Omega.{arith}
 use lib.IntN.{pos}
-use lib.ListN.{length, get_or, length-set, get_or-map}
-use mir.Syntax.{w32}
-use mir.ValLaws.{to_z-of_z}
-use borrow.Author.Rules.{rules}
+use lib.ListN.{length, get_or}
 use Rattle.words.specs.Words.{signed}
 use Rattle.words.specs.Lists.{tabulate, first_of}
-use Rattle.words.proofs.Tabulate.{first_of_all, first_of_push, tabulate_suc}
 use Rattle.layout.specs.declared.layout.Axis.{Axis}
-use Rattle.layout.specs.Layout.{no_axis, axes_of}
+use Rattle.layout.specs.Layout.{no_axis}
 use Rattle.flat.specs.FlatLayout.{letter_in, counted}
 use Rattle.flat.proofs.layout_words.axes_of.Given as goal
 

@@ -4,7 +4,6 @@ use mathlib.Core.Path.{◌≡◌}
 use mathlib.Core.List.{List}
 use Prim.Native.Nat.{ℕ}
 use lib.ListN.{length, get_or, length-map}
-use borrow.Author.Rules.{rules}
 use Rattle.words.proofs.Tabulate.{length_tabulate}
 use Rattle.layout.specs.Layout.{layout_of}
 use Rattle.flat.specs.FlatLayout.{counted, flat_layout}

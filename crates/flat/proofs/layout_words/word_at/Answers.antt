@@ -5,7 +5,6 @@ use mathlib.Core.List.{List}
 use Prim.Native.Nat.{ℕ, ◌+◌, ◌<◌, ◌≤◌}
 use native.Mathlib.Omega.{arith}
 use lib.ListN.{get_or, get_or-eq_default}
-use borrow.Author.Rules.{rules}
 use Rattle.words.proofs.Tabulate.{length_tabulate, get_or_tabulate}
 use Rattle.flat.specs.FlatLayout.{counted}
 use Rattle.flat.proofs.layout_words.word_at.Goals as goal

@@ -3,7 +3,6 @@
 -- measure is how many letters are left.
 -- Assumes nothing.
 use mathlib.Core.Path.{◌≡◌, refl, sym, ap, ◌∙◌, subst}
-use mathlib.Core.Logic.{⊎_elim}
 use mathlib.Core.Bool.{Bool, true, false, cond, ◌&&◌}
 use mathlib.Core.List.{List, [], ◌∷◌, map}
 use Prim.Native.Nat.{ℕ, ◌+◌, ◌-◌, ◌<◌, ◌≤◌}
@@ -179,15 +178,15 @@ loop-i-preserved c =
     let out = told f p x.letters.letters x.letters.count l.i g m l.invariant.4 false in
     elim c.if-has_letter.branch [
       | then-has_letter+then-l-ne1 w ↦
-      let low : w.pick-at.result ≤ l.n = rw (w.pick-at.ensures, w.last_place-last.ensures) (not_above w.joins_last-joins.result l.n) in (
-        omega arith,
-        omega (arith, w.n-is, low, l.invariant.1),
-        rw w.out-is (length-set l.out.dims w.pick-at.result w.merged.result ∙ l.invariant.2),
-        l.invariant.3,
-        rw (w.out-is, w.n-is)
-            (put w.dim_of-l.result (w.dim_of-l.ensures ∙ ap f v) (kept_letter c.args.set v h w.if-has_letter.true) l.out.dims l.n (omega (arith, l.invariant.1, l.invariant.2, l.invariant.3)) refl w.if-l-ne1.true
-            w.last_place-last.result w.last_place-last.ensures w.joins_last-joins.result w.joins_last-joins.ensures w.merged.result w.merged.ensures w.pick-at.result w.pick-at.ensures),
-      )
+          let low : w.pick-at.result ≤ l.n = rw (w.pick-at.ensures, w.last_place-last.ensures) (not_above w.joins_last-joins.result l.n) in (
+            omega arith,
+            omega (arith, w.n-is, low, l.invariant.1),
+            rw w.out-is (length-set l.out.dims w.pick-at.result w.merged.result ∙ l.invariant.2),
+            l.invariant.3,
+            rw (w.out-is, w.n-is)
+                (put w.dim_of-l.result (w.dim_of-l.ensures ∙ ap f v) (kept_letter c.args.set v h w.if-has_letter.true) l.out.dims l.n (omega (arith, l.invariant.1, l.invariant.2, l.invariant.3)) refl w.if-l-ne1.true
+                w.last_place-last.result w.last_place-last.ensures w.joins_last-joins.result w.joins_last-joins.ensures w.merged.result w.merged.ensures w.pick-at.result w.pick-at.ensures),
+          )
       | then-has_letter+else-l-ne1 w ↦ (
         omega arith,
         omega (arith, w.n-is, l.invariant.1),

@@ -1,7 +1,7 @@
 -- `add_to_four` meets its contract. The invariant: the address words are v steps from the first, and each run's sums have grown by the products of v depth
 -- counts. The measure is how many are left.
 -- Assumes nothing.
-use Rattle.std.proofs.Common.{◌≡◌, ℕ, ◌-◌, ◌<◌, ◌≤◌, List, length, arith}
+use Rattle.std.proofs.Common.{ℕ, ◌<◌, List, length, arith}
 use Rattle.words.specs.Stepped.{stepped}
 use Rattle.words.proofs.Modular.{step_none, step_more}
 use Rattle.side_sums.specs.SideSums.{side_run}

@@ -1,13 +1,9 @@
 -- `add_to_four` meets its contract. The invariant: the address words are v steps from the first, and each run's sums have grown by the products of v depth
 -- counts. The measure is how many are left.
 -- Assumes nothing.
-use Rattle.std.proofs.Common.{◌≡◌, ℕ, ◌-◌, ◌<◌, ◌≤◌, List, length, arith}
+use Rattle.std.proofs.Common.{◌≡◌, ◌-◌, ◌≤◌}
 use Rattle.words.specs.Stepped.{stepped}
-use Rattle.words.proofs.Modular.{step_none, step_more}
-use Rattle.side_sums.specs.SideSums.{side_run}
-use Rattle.side_sums.proofs.SideTurns.{run_none}
 use Rattle.four_lanes.specs.FourLanes.{LanesAdded}
-use Rattle.four_lanes.proofs.LaneShared.{lane_room, lane_turn}
 use Rattle.four_lanes.proofs.four_lanes.add_to_four.Given as goal
 
 abbrev pub invariant-loop-v : goal.invariant-loop-v

@@ -1,6 +1,5 @@
 -- `add_run` meets its contract: its words of B are those that the contract names, by what `wrapping_add_u64` ensures.
 -- Assumes nothing.
-use Rattle.std.proofs.Common.{rules}
 use Rattle.four_sums.proofs.four_sums.add_run.Goals as goal
 
 pub add_to_four-requires : goal.add_to_four-requires

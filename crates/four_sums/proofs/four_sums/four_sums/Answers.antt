@@ -2,27 +2,22 @@
 -- and where there is a run m, the digits and address words are where it begins for the first run of outputs. B's word of another run is as far from there as where
 -- it began, and A's is the same. The measure is how many runs are left.
 -- Assumes nothing.
-use Rattle.std.proofs.Common.{◌≡◌, ℕ, ◌+◌, ◌-◌, ◌*◌, ◌^◌, ◌<◌, ◌≤◌, length, drop, sym, refl, ap, ◌∙◌, mul-zero, arith}
+use Rattle.std.proofs.Common.{◌≡◌, ℕ, ◌+◌, ◌*◌, ◌^◌, ◌<◌, sym, refl, ap, ◌∙◌, mul-zero, arith}
 use Rattle.words.specs.Words.{word}
 use Rattle.words.specs.Sums.{sum_to}
-use Rattle.words.specs.Stepped.{stepped}
-use Rattle.limits.specs.Limits.{labels_limit}
 use Rattle.contraction.specs.Operands.{A, B}
 use Rattle.offsets.specs.declared.offsets.Offsets.{Offsets}
 use Rattle.offsets.specs.Offsets.{words_in}
 use Rattle.offsets.proofs.OwnedWords.{words_fit}
-use Rattle.odometer.specs.Odometer.{Stands}
 use Rattle.dots.specs.Dot.{dot}
-use Rattle.sums.specs.Walk.{reached, steps, over}
-use Rattle.sums.proofs.GroupRuns.{run_place, first_run, next_run}
-use Rattle.side_sums.specs.SideSums.{Added, AllReadable}
+use Rattle.sums.specs.Walk.{over}
+use Rattle.sums.proofs.GroupRuns.{first_run, next_run}
 use Rattle.side_sums.proofs.SideTurns.{added_none}
-use Rattle.side_sums.proofs.GroupSums.{up_to}
 use Rattle.groups.specs.Groups.{size}
 use Rattle.four_lanes.specs.FourLanes.{of_run}
 use Rattle.four_lanes.proofs.ByRun.{by_run}
-use Rattle.four_sums.specs.FourRunSums.{Shared, on_from, RunInside}
-use Rattle.four_sums.proofs.FourDepth.{OwnWords, Reaches, first_place, moved_place, sums_from, four_inside, four_added}
+use Rattle.four_sums.specs.FourRunSums.{Shared, RunInside}
+use Rattle.four_sums.proofs.FourDepth.{OwnWords, first_place, moved_place, sums_from, four_inside, four_added}
 use Rattle.four_sums.proofs.four_sums.four_sums.Goals as goal
 
 -- the words of each run of outputs: B's of another run is as far from the first one's as it began

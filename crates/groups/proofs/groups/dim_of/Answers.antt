@@ -1,6 +1,5 @@
 -- `dim_of` meets its contract: the extent is that of all axes together, and each stride is what its address word reads as.
 -- Assumes nothing.
-use borrow.Author.Rules.{rules}
 use Rattle.contraction.specs.Operands.{A, B, C, D}
 use Rattle.groups.proofs.LabelLists.{as_label_lem}
 use Rattle.groups.proofs.groups.dim_of.Goals as goal

@@ -1,6 +1,5 @@
 -- `groups_of` meets its contract: of the letters of all tensors, each set has just those of its group.
 -- Assumes nothing.
-use borrow.Author.Rules.{rules}
 use Rattle.contraction.specs.TensorAxes.{labelled_in}
 use Rattle.groups.proofs.Sets.{kept_group}
 use Rattle.groups.proofs.groups.groups_of.Goals as goal

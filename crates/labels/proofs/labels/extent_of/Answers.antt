@@ -1,6 +1,6 @@
 -- `extent_of` meets its contract: with no axes behind them.
 -- Assumes nothing.
-use Rattle.std.proofs.Common.{[], refl, ap, ◌∙◌, append-nil, rules}
+use Rattle.std.proofs.Common.{[], refl, ap, ◌∙◌, append-nil}
 use Rattle.layout.specs.Listed.{listed}
 use Rattle.labels.specs.Labels.{extent_of}
 use Rattle.labels.proofs.labels.extent_of.Goals as goal

@@ -1,11 +1,10 @@
 -- `extent_or` meets its contract. The loop goes from the last axis to the first, as `extent_of` does; its invariant: the extent so far is
 -- the letter's among the axes from i on, with any others behind them. The measure is i.
 -- Assumes nothing.
-use Rattle.std.proofs.Common.{◌≡◌, ◌≤◌, List, ◌++◌, ◌∙◌, arith, rules}
-use Rattle.words.proofs.Tabulate.{from, from_end, from_before}
+use Rattle.std.proofs.Common.{◌≡◌, ◌≤◌, List, ◌++◌}
+use Rattle.words.proofs.Tabulate.{from}
 use Rattle.layout.specs.declared.layout.Axis.{Axis}
 use Rattle.layout.specs.Layout.{no_axis}
-use Rattle.layout.specs.Listed.{listed}
 use Rattle.labels.specs.Labels.{extent_of}
 use Rattle.labels.proofs.labels.extent_or.Given as goal
 

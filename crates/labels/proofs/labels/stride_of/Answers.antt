@@ -2,7 +2,7 @@
 -- word of the letter's stride among the axes from i on. The strides passed their test, so that their sums are small and the word of a sum
 -- is the sum of the words. The measure is i.
 -- Assumes nothing.
-use Rattle.std.proofs.Common.{◌≡◌, ℕ, ◌+◌, ◌-◌, ◌*◌, ◌%◌, ◌^◌, ◌<◌, ◌≤◌, Bool, true, false, cond, T, eqb, leb, List, ◌∷◌, length, get_or, pos, ◌+ℤ◌, nat_abs, arith, leb→le, length-drop, w32, rules}
+use Rattle.std.proofs.Common.{◌≡◌, ℕ, ◌+◌, ◌-◌, ◌*◌, ◌%◌, ◌^◌, ◌<◌, ◌≤◌, Bool, true, false, cond, T, eqb, leb, List, ◌∷◌, length, get_or, pos, ◌+ℤ◌, nat_abs, arith, leb→le, length-drop, w32}
 use mir.ValLaws.{to_z-of_z}
 use Rattle.words.specs.Words.{word_of}
 use Rattle.words.proofs.Sums.{and_split, every_drop}

@@ -2,20 +2,11 @@
 -- word of the letter's stride among the axes from i on. The strides passed their test, so that their sums are small and the word of a sum
 -- is the sum of the words. The measure is i.
 -- Assumes nothing.
-use Rattle.std.proofs.Common.{◌≡◌, ℕ, ◌+◌, ◌-◌, ◌*◌, ◌%◌, ◌^◌, ◌<◌, ◌≤◌, Bool, true, false, cond, T, eqb, leb, List, ◌∷◌, length, get_or, pos, ◌+ℤ◌, nat_abs, arith, leb→le, length-drop, w32, rules}
-use mir.ValLaws.{to_z-of_z}
+use Rattle.std.proofs.Common.{◌≡◌, ◌≤◌}
 use Rattle.words.specs.Words.{word_of}
-use Rattle.words.proofs.Sums.{and_split, every_drop}
-use Rattle.words.proofs.Tabulate.{from, from_end, from_before}
-use Rattle.words.proofs.Whole.{word_add}
-use Rattle.limits.specs.Limits.{rank_limit, stride_limit}
-use Rattle.layout.specs.declared.layout.Axis.{Axis}
+use Rattle.words.proofs.Tabulate.{from}
 use Rattle.layout.specs.Layout.{no_axis}
-use Rattle.layout.specs.Listed.{listed}
-use Rattle.layout.proofs.Listed.{length_listed}
-use Rattle.validity.specs.TensorQuestions.{strides_valid}
 use Rattle.labels.specs.Labels.{stride_of}
-use Rattle.labels.proofs.Facts.{strides_bound}
 use Rattle.labels.proofs.labels.stride_of.Given as goal
 
 abbrev pub invariant-loop-i : goal.invariant-loop-i

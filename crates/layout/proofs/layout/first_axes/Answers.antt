@@ -1,19 +1,13 @@
 -- `first_axes` meets its contract. The loop's invariant: the array has 8 places, and those before i hold the axes of the lists.
 -- The measure is what is left of the 8.
 -- Assumes nothing.
-use mathlib.Core.Path.{◌≡◌, refl, sym, ◌∙◌}
-use mathlib.Core.List.{List}
-use Prim.Native.Nat.{ℕ, ◌≤◌, ◌-◌}
+use mathlib.Core.Path.{◌≡◌, sym, ◌∙◌}
 use native.Mathlib.Numerals.{add-one}
 use native.Mathlib.Omega.{arith}
-use lib.IntN.{ℤ, pos}
-use lib.ListN.{length, get_or, length-set}
+use lib.ListN.{length-set}
 use mir.Syntax.{w32}
 use mir.ValLaws.{to_z-of_z}
-use borrow.Author.Rules.{rules}
-use Rattle.words.specs.Lists.{tabulate, first_of}
 use Rattle.words.proofs.Tabulate.{first_of_all, first_of_push, tabulate_suc}
-use Rattle.layout.specs.declared.layout.Axis.{Axis}
 use Rattle.layout.specs.Layout.{no_axis, axes_of}
 use Rattle.layout.proofs.layout.first_axes.Invariants.{axis_at}
 use Rattle.layout.proofs.layout.first_axes.Goals as goal

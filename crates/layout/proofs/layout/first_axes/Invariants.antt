@@ -1,20 +1,14 @@
 -- `first_axes` meets its contract. The loop's invariant: the array has 8 places, and those before i hold the axes of the lists.
 -- The measure is what is left of the 8.
 -- Assumes nothing.
-use mathlib.Core.Path.{◌≡◌, refl, sym, ◌∙◌}
+use mathlib.Core.Path.{◌≡◌}
 use mathlib.Core.List.{List}
 use Prim.Native.Nat.{ℕ, ◌≤◌, ◌-◌}
-use native.Mathlib.Numerals.{add-one}
-use native.Mathlib.Omega.{arith}
 use lib.IntN.{ℤ, pos}
-use lib.ListN.{length, get_or, length-set}
-use mir.Syntax.{w32}
-use mir.ValLaws.{to_z-of_z}
-use borrow.Author.Rules.{rules}
+use lib.ListN.{length, get_or}
 use Rattle.words.specs.Lists.{tabulate, first_of}
-use Rattle.words.proofs.Tabulate.{first_of_all, first_of_push, tabulate_suc}
 use Rattle.layout.specs.declared.layout.Axis.{Axis}
-use Rattle.layout.specs.Layout.{no_axis, axes_of}
+use Rattle.layout.specs.Layout.{no_axis}
 use Rattle.layout.proofs.layout.first_axes.Given as goal
 
 abbrev pub axis_at : List ℕ → List ℕ → List ℤ → ℕ → Axis

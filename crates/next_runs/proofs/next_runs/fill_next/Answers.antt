@@ -27,7 +27,7 @@ fill_four-requires c =
     let begins : (q : ℕ) → q < 4 → Begins (drop 1 (over x.output)) (words_in x.base) (x.m + q) (runs q) =
     n.2.each _ _ _ (behind c.requires.0.outputs x.base (x.m + 3) (omega (arith, left))) c.requires.1.tabled c.requires.5 in
     let fillable : (q : ℕ) → q < 4
-        → RunFillable x.named x.output.step x.output.len (runs q) x.depth x.a.now x.b.now x.c.now (length x.d.now) x.count x.table.now =
+    → RunFillable x.named x.output.step x.output.len (runs q) x.depth x.a.now x.b.now x.c.now (length x.d.now) x.count x.table.now =
     λ q h.
     record { walks = c.requires.0.depths; rows = c.requires.2; clear = run_clear c.requires.0.outputs x.base (omega (arith, left)) (begins q h) c.requires.0.clear } in (
       n.1,
@@ -44,8 +44,7 @@ returns-then-next c =
     let n = c.look_ahead-next.ensures c.if-next.true in
     let left : x.m + 4 ≤ x.output.runs = omega (arith, n.0) in
     let begins : (q : ℕ) → q < 4 → Begins (drop 1 (over x.output)) (words_in x.base) (x.m + q) (runs q) =
-    n.2.each _ _ _ (behind c.requires.0.outputs x.base (x.m + 3) (omega (arith, left))) c.requires.1.tabled c.requires.5 in
-    (
+    n.2.each _ _ _ (behind c.requires.0.outputs x.base (x.m + 3) (omega (arith, left))) c.requires.1.tabled c.requires.5 in (
       omega arith,
       left,
       c.fill_four.ensures

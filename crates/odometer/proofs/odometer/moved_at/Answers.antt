@@ -1,11 +1,8 @@
 -- `moved_at` meets its contract. The invariant: at the places of the first o tensors stand the sums, which wrap. The measure is how many are left.
 -- Assumes nothing.
-use Rattle.std.proofs.Common.{◌≡◌, ℕ, ◌+◌, ◌-◌, ◌*◌, ◌≤◌, List, get_or, sym, refl, arith}
-use Rattle.words.specs.Words.{word}
-use Rattle.words.specs.Fronts.{front}
+use Rattle.std.proofs.Common.{◌≡◌, sym, refl, arith}
 use Rattle.words.proofs.Fronts.{front_none}
 use Rattle.contraction.specs.TensorPlaces.{tensor_count}
-use Rattle.offsets.specs.declared.offsets.Offsets.{Offsets}
 use Rattle.offsets.proofs.OffsetWords.{next_place, by_places}
 use Rattle.odometer.proofs.odometer.moved_at.Invariants.{moved_at}
 use Rattle.odometer.proofs.odometer.moved_at.Goals as goal

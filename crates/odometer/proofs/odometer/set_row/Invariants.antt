@@ -1,15 +1,10 @@
 -- `set_row` meets its contract. The invariant: behind the label's last value stand the moves of the first tensors. The measure is how many are left.
 -- Assumes nothing.
-use Rattle.std.proofs.Common.{◌≡◌, ℕ, ◌+◌, ◌-◌, ◌*◌, ◌%◌, ◌^◌, ◌<◌, ◌≤◌, List, length, get_or, set, sym, refl, ◌∙◌, arith, length-set, get_or-set_other, get_or-set_same}
+use Rattle.std.proofs.Common.{◌≡◌, ℕ, ◌+◌, ◌-◌, ◌^◌, ◌≤◌, length, get_or}
 use Rattle.words.specs.Words.{word}
 use Rattle.words.specs.Fronts.{stored}
-use Rattle.words.proofs.Fronts.{stored_none, stored_set}
-use Rattle.words.proofs.Store.{puts_other, puts_at}
-use Rattle.contraction.specs.TensorPlaces.{tensor_count, operand_number}
-use Rattle.contraction.proofs.TensorPlaces.{number_below}
+use Rattle.contraction.specs.TensorPlaces.{tensor_count}
 use Rattle.offsets.specs.declared.offsets.Offsets.{Offsets}
-use Rattle.offsets.proofs.OwnedWords.{words_fit}
-use Rattle.odometer.specs.Odometer.{less_gone, RowSet}
 use Rattle.odometer.proofs.odometer.set_row.Given as goal
 
 -- how far the tensor at a place moves

@@ -1,7 +1,7 @@
 -- `set_rows` meets its contract. The invariant: the rows before `rows` are those of their labels, and `gone` has how far these labels go. A turn sets one row
 -- more: the strides of its label less that. The measure is how many labels are left.
 -- Assumes nothing.
-use Rattle.std.proofs.Common.{◌≡◌, ℕ, zero, suc, ◌+◌, ◌-◌, ◌*◌, ◌<◌, ◌≤◌, List, [], ◌∷◌, map, length, get_or, drop, sym, refl, ap, ◌∙◌, add-one, arith}
+use Rattle.std.proofs.Common.{◌≡◌, ℕ, zero, suc, ◌+◌, ◌-◌, ◌*◌, ◌<◌, List, [], ◌∷◌, map, get_or, drop, sym, refl, ◌∙◌, add-one, arith}
 use native.Mathlib.Decide.{dec_lt}
 use Rattle.words.specs.Words.{word, word_of}
 use Rattle.contraction.specs.Operands.{Operand}

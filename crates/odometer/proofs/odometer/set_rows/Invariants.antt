@@ -1,21 +1,15 @@
 -- `set_rows` meets its contract. The invariant: the rows before `rows` are those of their labels, and `gone` has how far these labels go. A turn sets one row
 -- more: the strides of its label less that. The measure is how many labels are left.
 -- Assumes nothing.
-use Rattle.std.proofs.Common.{◌≡◌, ℕ, zero, suc, ◌+◌, ◌-◌, ◌*◌, ◌<◌, ◌≤◌, List, [], ◌∷◌, map, length, get_or, drop, sym, refl, ap, ◌∙◌, add-one, arith}
-use native.Mathlib.Decide.{dec_lt}
-use Rattle.words.specs.Words.{word, word_of}
+use Rattle.std.proofs.Common.{◌≡◌, ℕ, ◌-◌, ◌<◌, ◌≤◌, List, map, length, get_or}
+use Rattle.words.specs.Words.{word}
 use Rattle.contraction.specs.Operands.{Operand}
-use Rattle.contraction.specs.TensorPlaces.{operand_number}
-use Rattle.contraction.proofs.TensorPlaces.{number_below}
-use Rattle.groups.specs.declared.groups.Dim.{Dim}
 use Rattle.groups.specs.Groups.{Label}
-use Rattle.groups.specs.Held.{as_label, labels_in}
 use Rattle.offsets.specs.declared.offsets.Offsets.{Offsets}
-use Rattle.offsets.specs.Offsets.{words_in, Words}
-use Rattle.odometer.specs.Carried.{before, stride_at, move}
-use Rattle.odometer.specs.Odometer.{last_in, move_in, less_gone, Tabled, RowSet}
-use Rattle.odometer.proofs.Carried.{before_next}
-use Rattle.odometer.proofs.LabelsBehind.{labels, later, length_labels, labels_behind}
+use Rattle.offsets.specs.Offsets.{words_in}
+use Rattle.odometer.specs.Carried.{before, move}
+use Rattle.odometer.specs.Odometer.{last_in, move_in}
+use Rattle.odometer.proofs.LabelsBehind.{labels, later}
 use Rattle.odometer.proofs.odometer.set_rows.Given as goal
 
 -- the rows before i are set

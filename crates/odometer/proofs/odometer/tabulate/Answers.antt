@@ -1,6 +1,6 @@
 -- `tabulate` meets its contract: behind the first of at most one label there is none, and the table of no label has no row.
 -- Assumes nothing.
-use Rattle.std.proofs.Common.{◌≡◌, ℕ, ◌-◌, ◌<◌, List, [], drop, arith, rules}
+use Rattle.std.proofs.Common.{◌≡◌, ℕ, ◌-◌, ◌<◌, List, [], drop, arith}
 use Rattle.groups.specs.declared.groups.Group.{Group}
 use Rattle.groups.specs.Held.{labels_in}
 use Rattle.odometer.specs.Odometer.{Rows}

@@ -1,9 +1,9 @@
 -- `turn` meets its contract. The invariant: the labels before i were at their last values and are at 0, the others are as they were. The measure is how many
 -- labels are left.
 -- Assumes nothing.
-use Rattle.std.proofs.Common.{◌≡◌, ℕ, ◌+◌, ◌-◌, ◌*◌, ◌<◌, ◌≤◌, List, length, get_or, set, refl, ◌∙◌, arith, length-set, get_or-set_other, get_or-set_same}
+use Rattle.std.proofs.Common.{◌≡◌, ℕ, ◌+◌, ◌*◌, ◌<◌, ◌≤◌, List, length, get_or, set, refl, ◌∙◌, arith, length-set, get_or-set_other, get_or-set_same}
 use native.Mathlib.Decide.{dec_lt}
-use Rattle.odometer.specs.Odometer.{last_in, Turned}
+use Rattle.odometer.specs.Odometer.{Turned}
 use Rattle.odometer.proofs.odometer.turn.Invariants.{Cleared}
 use Rattle.odometer.proofs.odometer.turn.Goals as goal
 

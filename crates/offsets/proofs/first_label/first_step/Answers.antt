@@ -1,6 +1,5 @@
 -- `first_step` meets its contract: what stands at a tensor's place is its step.
 -- Assumes nothing.
-use Rattle.std.proofs.Common.{rules}
 use Rattle.offsets.proofs.Runs.{step_at}
 use Rattle.offsets.proofs.first_label.first_step.Goals as goal
 

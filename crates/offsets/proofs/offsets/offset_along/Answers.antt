@@ -1,11 +1,11 @@
 -- `offset_along` meets its contract. The loop goes from the first label to the last, as `offset_in` does; its invariant: `at` is the offset of the
 -- labels before i, and a count of the labels from i on is still to be added. The measure is how many are left.
 -- Assumes nothing.
-use Rattle.std.proofs.Common.{◌-◌, ◌≤◌, get_or, arith}
+use Rattle.std.proofs.Common.{get_or, arith}
 use Rattle.contraction.specs.TensorPlaces.{operand_at}
 use Rattle.contraction.proofs.TensorPlaces.{at_place}
 use Rattle.groups.specs.Held.{no_dim, labels_in}
-use Rattle.offsets.proofs.OffsetWords.{Partway, labels_from, offsets_start, extent_at, turn, offsets_end}
+use Rattle.offsets.proofs.OffsetWords.{labels_from, offsets_start, extent_at, turn, offsets_end}
 use Rattle.offsets.proofs.offsets.offset_along.Goals as goal
 
 pub loop-i-init : goal.loop-i-init

@@ -1,6 +1,6 @@
 -- `offset_in` meets its contract: the offset of a single label's value is that many steps.
 -- Assumes nothing.
-use Rattle.std.proofs.Common.{◌≡◌, ℕ, ◌*◌, ◌<◌, sym, ap, ◌∙◌, arith, rules}
+use Rattle.std.proofs.Common.{◌≡◌, ℕ, ◌*◌, ◌<◌, sym, ap, ◌∙◌, arith}
 use Rattle.words.specs.Words.{word, word_of}
 use Rattle.contraction.specs.Operands.{Operand}
 use Rattle.groups.specs.declared.groups.Group.{Group}

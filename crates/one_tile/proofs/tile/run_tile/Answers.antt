@@ -119,8 +119,7 @@ multiply_into_d-requires c =
         ap length w.d-is ∙ w.thin_tile-direct.auto.d ∙ b.auto.d,
       )
       | else-thin w ↦ (did f false c.if-thin.direct b.new.d d w.d-is refl b.ensures w.direct-is, λ e. w.direct-is, ap length w.d-is ∙ b.auto.d)
-    ] in
-    (
+    ] in (
       q.0,
       tile_begins q.0 q.1 c.tile-at.ensures,
       subst (OutputClear _ _ D) (sym h.2) (out_clear q.2),
@@ -148,8 +147,7 @@ returns c =
         ap length w.d-is ∙ w.thin_tile-direct.auto.d ∙ b.auto.d,
       )
       | else-thin w ↦ (did f false c.if-thin.direct b.new.d d w.d-is refl b.ensures w.direct-is, λ e. w.direct-is, ap length w.d-is ∙ b.auto.d)
-    ] in
-    (
+    ] in (
       tile_stepped s.p t s.a.now s.b.now k.blocks c.multiply_into_d.ensures
           ∙ ap (tile_step _ _) (rw c.if-direct.false at h.0)
           ∙ tile_started s.p t q.1 s.alpha s.beta s.a.now s.b.now s.c.now s.d.now q.2.places s.named,

@@ -1,6 +1,5 @@
 -- `fill_block` meets its contract: each sum is that of its output modulo 2^32, and so the stored run is the filled one.
 -- Assumes nothing.
-use borrow.Author.Rules.{rules}
 use Rattle.sums.specs.Walk.{over}
 use Rattle.output_block.proofs.StoredSums.{stored_run}
 use Rattle.output_block.proofs.output_block.fill_block.Goals as goal

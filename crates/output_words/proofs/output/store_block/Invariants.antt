@@ -1,11 +1,9 @@
 -- `store_block` meets its contract. The invariant: r is at most n, the address words are r steps from the first, and the words of D are those that r turns
 -- leave. The measure is how many are left.
 -- Assumes nothing.
-use Rattle.std.proofs.Common.{◌≡◌, ℕ, ◌-◌, ◌<◌, ◌≤◌, Bool, List, length, get_or, refl, ap, ◌∙◌, arith, length-set, rules}
+use Rattle.std.proofs.Common.{◌≡◌, ℕ, ◌-◌, ◌≤◌, Bool, List, length, get_or}
 use Rattle.words.specs.Loops.{each, put}
 use Rattle.words.specs.Stepped.{stepped}
-use Rattle.words.proofs.Modular.{step_none, step_more}
-use Rattle.words.proofs.Store.{put_next}
 use Rattle.meaning.specs.Meaning.{start_of, combined}
 use Rattle.output_words.proofs.output.store_block.Given as goal
 

@@ -1,13 +1,11 @@
 -- `fill_blocks` meets its contract. The invariant: the words of D are those that the first v counts of the run leave, and where counts are left, the address
 -- words are v steps from the first. A turn fills a block of the next counts, or those that are left. The measure is how many are left.
 -- Assumes nothing.
-use Rattle.std.proofs.Common.{◌≡◌, ◌-◌, ◌<◌, ◌≤◌, length, refl, ◌∙◌, arith, rules}
+use Rattle.std.proofs.Common.{◌≡◌, ◌-◌, ◌<◌, ◌≤◌, length}
 use Rattle.words.specs.Loops.{each}
 use Rattle.offsets.specs.Offsets.{words_in}
-use Rattle.offsets.proofs.OwnedWords.{words_fit}
 use Rattle.sums.specs.Walk.{steps, over}
 use Rattle.output_run.specs.FilledOutput.{filled}
-use Rattle.outputs.proofs.Blocks.{steps_first, leapt, block_clear, block_turn}
 use Rattle.outputs.proofs.outputs.fill_blocks.Given as goal
 
 abbrev pub invariant-loop-v : goal.invariant-loop-v

@@ -1,21 +1,15 @@
 -- `plan_of` meets its contract: the labels of each set's letters are its group, which can be folded.
 -- Assumes nothing.
 use mathlib.Core.Path.{◌≡◌}
-use Prim.Native.Nat.{ℕ, ◌≤◌}
-use borrow.Author.Rules.{rules}
-use lib.ListN.{length}
-use Rattle.limits.specs.Limits.{labels_limit}
-use Rattle.labels.specs.Labels.{labels}
 use Rattle.labels.specs.LetterSets.{has}
-use Rattle.contraction.specs.Operands.{tensors, shape, together}
-use Rattle.contraction.specs.TensorAxes.{shape_of, Gathered}
+use Rattle.contraction.specs.Operands.{tensors, shape}
+use Rattle.contraction.specs.TensorAxes.{shape_of}
 use Rattle.groups.specs.declared.groups.Group.{Group as GroupCode}
 use Rattle.groups.specs.Groups.{Group, batch, row, column, depth, labels_where, group}
 use Rattle.groups.specs.Held.{labels_in}
 use Rattle.groups.specs.Sets.{sets_in}
-use Rattle.groups.specs.Foldable.{Foldable}
 use Rattle.folding.specs.Fold.{fold}
-use Rattle.plan.proofs.GroupsFoldable.{fold_asks, fold_gives}
+use Rattle.plan.proofs.GroupsFoldable.{fold_gives}
 use Rattle.plan.proofs.plan.plan_of.Goals.{After-groups_of-sets}
 use Rattle.plan.proofs.plan.plan_of.Goals as goal
 

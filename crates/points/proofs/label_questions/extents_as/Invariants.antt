@@ -3,13 +3,10 @@
 -- Assumes nothing.
 use mathlib.Core.Path.{◌≡◌}
 use Prim.Native.Nat.{◌≤◌}
-use native.Mathlib.Omega.{arith}
-use borrow.Author.Rules.{rules}
 use lib.Dec.{eqb}
 use Rattle.words.specs.Sums.{every}
-use Rattle.words.proofs.Tabulate.{from, from_end, from_before}
+use Rattle.words.proofs.Tabulate.{from}
 use Rattle.layout.specs.Layout.{no_axis}
-use Rattle.layout.specs.Listed.{listed}
 use Rattle.labels.specs.Labels.{extent_of}
 use Rattle.contraction.specs.Operands.{together}
 use Rattle.contraction.specs.TensorAxes.{shape_of}

@@ -2,14 +2,10 @@
 -- from i on. The measure is i.
 -- Assumes nothing.
 use mathlib.Core.Path.{◌≡◌}
-use Prim.Native.Nat.{◌≤◌}
 use native.Mathlib.Omega.{arith}
-use borrow.Author.Rules.{rules}
-use Rattle.words.specs.Sums.{every}
-use Rattle.words.proofs.Tabulate.{from, from_end, from_before}
+use Rattle.words.proofs.Tabulate.{from_end, from_before}
 use Rattle.layout.specs.Layout.{no_axis}
 use Rattle.layout.specs.Listed.{listed}
-use Rattle.labels.specs.LetterSets.{has}
 use Rattle.points.proofs.label_questions.letters_in.Goals as goal
 
 pub loop-i-init : goal.loop-i-init

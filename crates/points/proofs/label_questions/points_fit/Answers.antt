@@ -4,17 +4,13 @@
 -- Assumes nothing.
 use mathlib.Core.Path.{◌≡◌}
 use mathlib.Core.Bool.{Bool, true, false, not}
-use Prim.Native.Nat.{ℕ, ◌+◌, ◌*◌, ◌-◌, ◌≤◌, ◌<◌, min, max}
-use native.Mathlib.Nat.{min-le_left, min-eq_left, min-eq_right, mul-le-mul_right, le-max_left}
+use Prim.Native.Nat.{ℕ, ◌+◌, ◌*◌, ◌≤◌, ◌<◌, min}
+use native.Mathlib.Nat.{min-eq_left, min-eq_right, mul-le-mul_right, le-max_left}
 use native.Mathlib.Omega.{arith}
-use borrow.Author.Rules.{rules}
 use borrow.Author.Tests.{le-leb, lt-leb}
 use lib.Dec.{T, leb, leb→le, nleb→lt}
-use lib.ListN.{get_or}
-use Rattle.words.specs.Sums.{product}
-use Rattle.words.proofs.Tabulate.{from, from_end, from_before}
+use Rattle.words.proofs.Tabulate.{from_end, from_before}
 use Rattle.limits.specs.Limits.{product_limit}
-use Rattle.labels.specs.Labels.{extent_of}
 use Rattle.labels.specs.LetterSets.{spelled}
 use Rattle.contraction.specs.Operands.{together}
 use Rattle.contraction.specs.TensorAxes.{shape_of}

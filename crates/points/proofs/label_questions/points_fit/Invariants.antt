@@ -3,22 +3,13 @@
 -- above the limit stays above it. The measure is i.
 -- Assumes nothing.
 use mathlib.Core.Path.{◌≡◌}
-use mathlib.Core.Bool.{Bool, true, false, not}
-use Prim.Native.Nat.{ℕ, ◌+◌, ◌*◌, ◌-◌, ◌≤◌, ◌<◌, min, max}
-use native.Mathlib.Nat.{min-le_left, min-eq_left, min-eq_right, mul-le-mul_right, le-max_left}
-use native.Mathlib.Omega.{arith}
-use borrow.Author.Rules.{rules}
-use borrow.Author.Tests.{le-leb, lt-leb}
-use lib.Dec.{T, leb, leb→le, nleb→lt}
-use lib.ListN.{get_or}
+use Prim.Native.Nat.{◌+◌, ◌≤◌, min, max}
 use Rattle.words.specs.Sums.{product}
-use Rattle.words.proofs.Tabulate.{from, from_end, from_before}
+use Rattle.words.proofs.Tabulate.{from}
 use Rattle.limits.specs.Limits.{product_limit}
 use Rattle.labels.specs.Labels.{extent_of}
-use Rattle.labels.specs.LetterSets.{spelled}
 use Rattle.contraction.specs.Operands.{together}
 use Rattle.contraction.specs.TensorAxes.{shape_of}
-use Rattle.points.specs.LabelQuestions.{points, points_fit}
 use Rattle.points.proofs.label_questions.points_fit.Given as goal
 
 abbrev pub invariant-loop-i : goal.invariant-loop-i

@@ -4,7 +4,6 @@
 use mathlib.Core.Path.{◌≡◌, refl, sym, ap, ◌∙◌}
 use mathlib.Core.Bool.{Bool, true, false, cond}
 use mathlib.Core.List.{List, [], ◌∷◌, ◌++◌}
-use borrow.Author.Rules.{rules}
 use Rattle.layout.specs.Listed.{listed}
 use Rattle.labels.specs.declared.letter_sets.Labelled.{Labelled}
 use Rattle.contraction.specs.declared.contraction.Contraction.{Contraction}

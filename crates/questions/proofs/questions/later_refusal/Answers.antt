@@ -7,7 +7,6 @@ use Rattle.entries.specs.EntryQuestions.{apart}
 use Rattle.contraction.specs.Operands.{C, D, together}
 use Rattle.questions.specs.Questions.{label_questions, entry_questions}
 use Rattle.tensor_answers.proofs.Refusal.{none_left, asked}
-use borrow.Author.Rules.{rules}
 use Rattle.questions.proofs.questions.later_refusal.Goals as goal
 
 pub all_apart-apart-requires : goal.all_apart-apart-requires

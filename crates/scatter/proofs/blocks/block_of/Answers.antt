@@ -1,6 +1,6 @@
 -- `block_of` meets its contract: the scatter vector starts from no offset, so that the list's first words are those of the counts, and `Block::of` keeps the list.
 -- Assumes nothing.
-use Rattle.std.proofs.Common.{◌≡◌, ℕ, ◌+◌, ◌≤◌, min, List, get_or, ap, ◌∙◌, zero-add, arith, rules}
+use Rattle.std.proofs.Common.{◌≡◌, ℕ, ◌+◌, ◌≤◌, min, List, get_or, ap, ◌∙◌, zero-add, arith}
 use Rattle.words.specs.Words.{word, word_of}
 use Rattle.words.proofs.Fronts.{get_or_front}
 use Rattle.limits.specs.Limits.{block_limit}

@@ -1,7 +1,7 @@
 -- `scatter_labels` meets its contract. The invariant: the first k counts stand at the front of the list, and where counts of the run are left, `at` is the word of the
 -- count before. A turn forms the word of count k, anew or by one step, and stores it behind the others. The measure is how many counts are left.
 -- Assumes nothing.
-use Rattle.std.proofs.Common.{◌≡◌, ℕ, ◌+◌, ◌-◌, ◌%◌, ◌<◌, ◌≤◌, List, set, sym, refl, ap, ◌∙◌, ⊎_elim, add_assoc, mod-lt, arith}
+use Rattle.std.proofs.Common.{◌≡◌, ℕ, ◌+◌, ◌-◌, ◌%◌, ◌<◌, List, set, sym, refl, ap, ◌∙◌, add_assoc, mod-lt, arith}
 use Rattle.words.specs.Words.{word, word_of}
 use Rattle.words.proofs.Modular.{word_add_left, word_add_right}
 use Rattle.words.proofs.Fronts.{front_none, front_set}
@@ -12,7 +12,7 @@ use Rattle.groups.specs.Held.{labels_in}
 use Rattle.offsets.specs.Counts.{offset_in}
 use Rattle.offsets.specs.FirstLabel.{first_label}
 use Rattle.offsets.proofs.Runs.{step_at, first_counts, next_lowest, offset_next}
-use Rattle.scatter.specs.ScatterVectors.{word_at, scatter_vector}
+use Rattle.scatter.specs.ScatterVectors.{word_at}
 use Rattle.scatter.proofs.Vectors.{same_long}
 use Rattle.scatter.proofs.blocks.scatter_labels.Invariants.{AtCount, Before}
 use Rattle.scatter.proofs.blocks.scatter_labels.Goals.{At-loop-k, Joined-left-eq0, then-left-eq0, else-left-eq0}
@@ -69,8 +69,8 @@ here c =
     elim c.if-left-eq0.branch [
       | then-left-eq0 w ↦ rw (w.at-is, w.left-is) (anew (labels_in c.args.g) f.len n w.offset_in.ensures w.wrapping_add_u64-at.ensures.value)
       | else-left-eq0 w ↦
-      rw (w.at-is, w.left-is)
-      (along (labels_in c.args.g) f.len _ (step_at _ f c.requires.1) c.loop-k.invariant.2 (omega (arith, w.if-left-eq0.false)) w.wrapping_add_u64-at-else-left-eq0.ensures.value)
+          rw (w.at-is, w.left-is)
+          (along (labels_in c.args.g) f.len _ (step_at _ f c.requires.1) c.loop-k.invariant.2 (omega (arith, w.if-left-eq0.false)) w.wrapping_add_u64-at-else-left-eq0.ensures.value)
     ]
 
 left_here : (c : Joined-left-eq0) → 0 < c.if-left-eq0.left

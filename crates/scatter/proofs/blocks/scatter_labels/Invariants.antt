@@ -1,19 +1,12 @@
 -- `scatter_labels` meets its contract. The invariant: the first k counts stand at the front of the list, and where counts of the run are left, `at` is the word of the
 -- count before. A turn forms the word of count k, anew or by one step, and stores it behind the others. The measure is how many counts are left.
 -- Assumes nothing.
-use Rattle.std.proofs.Common.{◌≡◌, ℕ, ◌+◌, ◌-◌, ◌%◌, ◌<◌, ◌≤◌, List, set, sym, refl, ap, ◌∙◌, ⊎_elim, add_assoc, mod-lt, arith}
-use Rattle.words.specs.Words.{word, word_of}
-use Rattle.words.proofs.Modular.{word_add_left, word_add_right}
-use Rattle.words.proofs.Fronts.{front_none, front_set}
+use Rattle.std.proofs.Common.{◌≡◌, ℕ, ◌+◌, ◌-◌, ◌%◌, ◌<◌, ◌≤◌, List}
 use Rattle.contraction.specs.Operands.{Operand}
 use Rattle.contraction.specs.TensorPlaces.{operand_at}
-use Rattle.groups.specs.Groups.{Label, size}
+use Rattle.groups.specs.Groups.{Label}
 use Rattle.groups.specs.Held.{labels_in}
-use Rattle.offsets.specs.Counts.{offset_in}
-use Rattle.offsets.specs.FirstLabel.{first_label}
-use Rattle.offsets.proofs.Runs.{step_at, first_counts, next_lowest, offset_next}
 use Rattle.scatter.specs.ScatterVectors.{word_at, scatter_vector}
-use Rattle.scatter.proofs.Vectors.{same_long}
 use Rattle.scatter.proofs.blocks.scatter_labels.Given as goal
 
 -- `at` is the word of count n, and with it `left` counts of its run are left

@@ -1,6 +1,6 @@
 -- `scatter_vector` meets its contract: the counts of a single label lie a step apart from the first one on.
 -- Assumes nothing.
-use Rattle.std.proofs.Common.{◌∙◌, arith, rules}
+use Rattle.std.proofs.Common.{◌∙◌, arith}
 use Rattle.scatter.proofs.Vectors.{stepped_vector}
 use Rattle.scatter.proofs.blocks.scatter_vector.Goals as goal
 

@@ -1,11 +1,9 @@
 -- `step_vector` meets its contract. The invariant: the first k words stand at the front of the list, and `at` is the next one. The measure is how many are left.
 -- Assumes nothing.
-use Rattle.std.proofs.Common.{◌≡◌, ℕ, ◌-◌, ◌≤◌, List, set, sym, ap, ◌∙◌, arith}
-use Rattle.words.specs.Fronts.{front}
+use Rattle.std.proofs.Common.{ℕ, List, set, sym, ap, ◌∙◌, arith}
 use Rattle.words.specs.Stepped.{stepped}
 use Rattle.words.proofs.Modular.{step_none, step_more}
 use Rattle.words.proofs.Fronts.{front_none, front_set}
-use Rattle.scatter.proofs.Vectors.{same_long}
 use Rattle.scatter.proofs.blocks.step_vector.Goals as goal
 
 pub loop-k-init : goal.loop-k-init

@@ -1,12 +1,8 @@
 -- `best_lag` meets its contract. The loop's invariant: the lag is the best of those up to l. The measure is what is left of the lags.
 -- Assumes nothing.
-use mathlib.Core.Path.{◌≡◌, refl}
-use mathlib.Core.Bool.{true, false}
+use mathlib.Core.Path.{◌≡◌}
 use Prim.Native.Nat.{◌-◌, ◌≤◌}
-use native.Mathlib.Omega.{arith}
-use borrow.Author.Rules.{rules}
 use Rattle.scores.specs.Score.{signed_at, best}
-use Rattle.scores.proofs.BestLag.{best_next}
 use Rattle.scores.proofs.best_lag.best_lag.Given as goal
 
 abbrev pub invariant-loop-l : goal.invariant-loop-l

@@ -1,7 +1,6 @@
 -- `delay_refusal` meets its contract: `ask` puts the two answers in the order of the list.
 -- Assumes nothing.
 use mathlib.Core.Bool.{◌&&◌}
-use borrow.Author.Rules.{rules}
 use Rattle.tensor_answers.proofs.Refusal.{none_left, asked}
 use Rattle.scores.specs.DelayQuestions.{delay_questions}
 use Rattle.scores.proofs.delay_questions.delay_refusal.Goals as goal

@@ -1,6 +1,5 @@
 -- `sample_fits` meets its contract: its two tests are the question's, of the number that the word's bits read as.
 -- Assumes nothing.
-use borrow.Author.Rules.{rules}
 use mir.Syntax.{w32}
 use mir.ValLaws.{to_z-of_z}
 use Rattle.scores.specs.DelayQuestions.{sample_fits}

@@ -5,11 +5,8 @@ use mathlib.Core.Path.{◌≡◌, ap, ◌∙◌}
 use mathlib.Core.List.{List, ◌∷◌}
 use Prim.Native.Nat.{ℕ, suc, ◌-◌, ◌≤◌, ◌<◌}
 use native.Mathlib.Omega.{arith}
-use borrow.Author.Rules.{rules}
 use lib.ListN.{length, get_or, drop}
 use lib.Seq.{drop-cons, drop-length}
-use Rattle.words.specs.Sums.{every}
-use Rattle.scores.specs.DelayQuestions.{sample_fits}
 use Rattle.scores.proofs.delay_questions.samples_fit.Goals as goal
 
 -- one sample more in front

@@ -1,13 +1,9 @@
 -- `samples_fit` meets its contract. The loop goes from the last sample to the first, as `every` does; its invariant: the answer so far is the
 -- test of the samples from i on. The measure is i.
 -- Assumes nothing.
-use mathlib.Core.Path.{◌≡◌, ap, ◌∙◌}
-use mathlib.Core.List.{List, ◌∷◌}
-use Prim.Native.Nat.{ℕ, suc, ◌-◌, ◌≤◌, ◌<◌}
-use native.Mathlib.Omega.{arith}
-use borrow.Author.Rules.{rules}
-use lib.ListN.{length, get_or, drop}
-use lib.Seq.{drop-cons, drop-length}
+use mathlib.Core.Path.{◌≡◌}
+use Prim.Native.Nat.{◌≤◌}
+use lib.ListN.{length, drop}
 use Rattle.words.specs.Sums.{every}
 use Rattle.scores.specs.DelayQuestions.{sample_fits}
 use Rattle.scores.proofs.delay_questions.samples_fit.Given as goal

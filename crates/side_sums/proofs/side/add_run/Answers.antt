@@ -1,13 +1,13 @@
 -- `add_run` meets its contract: a tensor that does not go along the outputs is at the same places for each of them, and a product is the same with its factors
 -- exchanged.
 -- Assumes nothing.
-use Rattle.std.proofs.Common.{◌≡◌, ℕ, ◌<◌, List, get_or, refl, ◌∙◌, mul_comm, arith, rules}
+use Rattle.std.proofs.Common.{◌≡◌, ℕ, List, get_or, refl, ◌∙◌, mul_comm, arith}
 use Rattle.words.specs.Loops.{Within}
 use Rattle.words.specs.Stepped.{stepped}
 use Rattle.words.proofs.Sums.{sum_to_ext}
-use Rattle.dots.specs.Dot.{dot, RunReadable}
+use Rattle.dots.specs.Dot.{dot}
 use Rattle.dots.proofs.Products.{dot_ext}
-use Rattle.side_sums.specs.SideSums.{side_run, Added, RunsInside}
+use Rattle.side_sums.specs.SideSums.{side_run, Added}
 use Rattle.side_sums.proofs.side.add_run.Goals as goal
 
 -- a tensor that stands still

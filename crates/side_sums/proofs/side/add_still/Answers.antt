@@ -1,12 +1,10 @@
 -- `add_still` meets its contract. The invariant: the address words are v steps from the first, and each sum has grown by the products of v depth counts.
 -- The measure is how many are left.
 -- Assumes nothing.
-use Rattle.std.proofs.Common.{◌≡◌, ◌-◌, ◌<◌, ◌≤◌, length, arith}
+use Rattle.std.proofs.Common.{◌<◌, length, arith}
 use Rattle.words.specs.Stepped.{stepped}
 use Rattle.words.proofs.Modular.{step_none, step_more}
-use Rattle.lanes.specs.LaneProducts.{spread}
-use Rattle.dots.specs.Dot.{dot}
-use Rattle.side_sums.specs.SideSums.{side_run, Added}
+use Rattle.side_sums.specs.SideSums.{side_run}
 use Rattle.side_sums.proofs.SideTurns.{crossed, across, run_none, run_turn}
 use Rattle.side_sums.proofs.side.add_still.Goals as goal
 

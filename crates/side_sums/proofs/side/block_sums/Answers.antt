@@ -1,10 +1,9 @@
 -- `block_sums` meets its contract. The invariant: each sum has grown by the products at the counts of the first m runs, and where there is a run m, the digits
 -- and address words are where it begins. A run's places are those of its counts. The measure is how many runs are left.
 -- Assumes nothing.
-use Rattle.std.proofs.Common.{◌≡◌, ℕ, ◌+◌, ◌-◌, ◌*◌, ◌<◌, ◌≤◌, List, length, drop, replicate, sym, refl, ◌∙◌, mul-zero, arith, lit<}
+use Rattle.std.proofs.Common.{◌≡◌, ℕ, ◌+◌, ◌*◌, ◌<◌, List, drop, replicate, sym, refl, ◌∙◌, mul-zero, arith, lit<}
 use Rattle.words.specs.Sums.{sum_to}
-use Rattle.words.specs.Stepped.{stepped}
-use Rattle.limits.specs.Limits.{block_limit, labels_limit}
+use Rattle.limits.specs.Limits.{block_limit}
 use Rattle.contraction.specs.Operands.{Operand, A, B}
 use Rattle.groups.specs.Groups.{Label}
 use Rattle.offsets.specs.declared.offsets.Offsets.{Offsets}
@@ -13,7 +12,7 @@ use Rattle.offsets.proofs.OwnedWords.{words_fit}
 use Rattle.odometer.specs.Odometer.{Stands}
 use Rattle.sums.specs.declared.walk.Walk.{Walk}
 use Rattle.dots.specs.Dot.{dot}
-use Rattle.sums.specs.Walk.{reached, steps, sum_from, over, Walks}
+use Rattle.sums.specs.Walk.{reached, steps, sum_from, Walks}
 use Rattle.sums.proofs.GroupRuns.{run_place, first_run, next_run}
 use Rattle.side_sums.specs.SideSums.{side_run, Added, RunsInside, AllReadable}
 use Rattle.side_sums.proofs.SideTurns.{added_none}
@@ -50,13 +49,12 @@ bounds-along-1 c = lit< tt
 
 pub loop-m-init : goal.loop-m-init
 unfolding dot sum_to
-loop-m-init c =
-    (
-      omega arith,
-      refl,
-      added_none c.args.n _ (replicate block_limit 0) (λ r. rw mul-zero),
-      λ h. first_run _ _ c.requires.2 c.requires.4 c.args.from (words_fit c.args.from.words _ c.well_formed.1.1.0.1.1.0.1.1),
-    )
+loop-m-init c = (
+  omega arith,
+  refl,
+  added_none c.args.n _ (replicate block_limit 0) (λ r. rw mul-zero),
+  λ h. first_run _ _ c.requires.2 c.requires.4 c.args.from (words_fit c.args.from.words _ c.well_formed.1.1.0.1.1.0.1.1),
+)
 
 pub bounds-at-0 : goal.bounds-at-0
 bounds-at-0 c = lit< tt

@@ -1,23 +1,15 @@
 -- `block_sums` meets its contract. The invariant: each sum has grown by the products at the counts of the first m runs, and where there is a run m, the digits
 -- and address words are where it begins. A run's places are those of its counts. The measure is how many runs are left.
 -- Assumes nothing.
-use Rattle.std.proofs.Common.{◌≡◌, ℕ, ◌+◌, ◌-◌, ◌*◌, ◌<◌, ◌≤◌, List, length, drop, replicate, sym, refl, ◌∙◌, mul-zero, arith, lit<}
-use Rattle.words.specs.Sums.{sum_to}
+use Rattle.std.proofs.Common.{◌≡◌, ◌-◌, ◌*◌, ◌<◌, ◌≤◌, length, drop}
 use Rattle.words.specs.Stepped.{stepped}
-use Rattle.limits.specs.Limits.{block_limit, labels_limit}
-use Rattle.contraction.specs.Operands.{Operand, A, B}
-use Rattle.groups.specs.Groups.{Label}
-use Rattle.offsets.specs.declared.offsets.Offsets.{Offsets}
+use Rattle.limits.specs.Limits.{labels_limit}
+use Rattle.contraction.specs.Operands.{A, B}
 use Rattle.offsets.specs.Offsets.{words_in}
-use Rattle.offsets.proofs.OwnedWords.{words_fit}
 use Rattle.odometer.specs.Odometer.{Stands}
-use Rattle.sums.specs.declared.walk.Walk.{Walk}
-use Rattle.dots.specs.Dot.{dot}
-use Rattle.sums.specs.Walk.{reached, steps, sum_from, over, Walks}
-use Rattle.sums.proofs.GroupRuns.{run_place, first_run, next_run}
-use Rattle.side_sums.specs.SideSums.{side_run, Added, RunsInside, AllReadable}
-use Rattle.side_sums.proofs.SideTurns.{added_none}
-use Rattle.side_sums.proofs.GroupSums.{up_to, run_inside, run_added, total}
+use Rattle.sums.specs.Walk.{over}
+use Rattle.side_sums.specs.SideSums.{Added}
+use Rattle.side_sums.proofs.GroupSums.{up_to}
 use Rattle.side_sums.proofs.side.block_sums.Given as goal
 
 abbrev pub invariant-loop-m : goal.invariant-loop-m

@@ -1,6 +1,6 @@
 -- `depth_sum` meets its contract: where there is one run, its places are the group's.
 -- Assumes nothing.
-use Rattle.std.proofs.Common.{◌≡◌, ℕ, ◌*◌, List, ap, ◌∙◌, arith, rules}
+use Rattle.std.proofs.Common.{◌≡◌, ℕ, ◌*◌, List, ap, ◌∙◌, arith}
 use Rattle.words.specs.Words.{word}
 use Rattle.words.specs.Loops.{Within}
 use Rattle.words.specs.Stepped.{stepped}

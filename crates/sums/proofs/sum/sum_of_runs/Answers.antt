@@ -2,13 +2,12 @@
 -- digits and address words are where it begins. A run's places are those of its counts, so its sum is the next part of that product. The measure is how many
 -- runs are left.
 -- Assumes nothing.
-use Rattle.std.proofs.Common.{◌≡◌, ℕ, ◌+◌, ◌-◌, ◌*◌, ◌<◌, ◌≤◌, List, length, get_or, drop, sym, refl, ap, ◌∙◌, mul-zero, mul-suc, add-one, arith, lit<}
+use Rattle.std.proofs.Common.{◌≡◌, ℕ, ◌+◌, ◌*◌, ◌<◌, List, drop, sym, refl, ap, ◌∙◌, mul-zero, mul-suc, add-one, arith, lit<}
 use Rattle.words.specs.Words.{word}
 use Rattle.words.specs.Sums.{sum_to}
 use Rattle.words.specs.Loops.{Within}
 use Rattle.words.specs.Stepped.{stepped}
 use Rattle.words.proofs.Sums.{sum_to_ext, sum_to_add}
-use Rattle.limits.specs.Limits.{labels_limit}
 use Rattle.contraction.specs.Operands.{Operand, A, B}
 use Rattle.groups.specs.Groups.{Label, size}
 use Rattle.offsets.specs.declared.offsets.Offsets.{Offsets}
@@ -17,7 +16,7 @@ use Rattle.offsets.proofs.OwnedWords.{words_fit}
 use Rattle.odometer.specs.Odometer.{Stands}
 use Rattle.sums.specs.declared.walk.Walk.{Walk}
 use Rattle.dots.specs.Dot.{dot}
-use Rattle.sums.specs.Walk.{reached, sum_from, over, Walks}
+use Rattle.sums.specs.Walk.{reached, sum_from, Walks}
 use Rattle.sums.proofs.GroupRuns.{run_below, run_place, first_run, next_run}
 use Rattle.sums.proofs.sum.sum_of_runs.Invariants.{term}
 use Rattle.sums.proofs.sum.sum_of_runs.Goals as goal

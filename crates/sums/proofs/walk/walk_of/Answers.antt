@@ -1,7 +1,7 @@
 -- `walk_of` meets its contract: a run is the first label's, and the size of the other labels is the number of runs. With no label there is one run of one
 -- count, and with a first label of extent 0 none.
 -- Assumes nothing.
-use Rattle.std.proofs.Common.{◌≡◌, ℕ, ◌*◌, ◌<◌, ◌≤◌, List, [], drop, sym, refl, ap, ◌∙◌, arith, rules}
+use Rattle.std.proofs.Common.{◌≡◌, ℕ, ◌*◌, ◌<◌, ◌≤◌, [], drop, sym, refl, ap, ◌∙◌, arith}
 use Rattle.limits.specs.Limits.{labels_limit}
 use Rattle.groups.specs.declared.groups.Group.{Group}
 use Rattle.groups.specs.Groups.{size}

@@ -1,6 +1,5 @@
 -- `cut_block` meets its contract: the block begins and ends inside the group, so that no product wraps and its offsets fit their array.
 -- Assumes nothing.
-use Rattle.std.proofs.Common.{rules}
 use Rattle.tile_blocks.proofs.TileParts.{part_ends}
 use Rattle.tile_blocks.proofs.tile_places.cut_block.Goals as goal
 

@@ -1,6 +1,6 @@
 -- `panel_starts` meets its contract: the panel begins and ends inside the group, so that no product wraps and its starts fit their array.
 -- Assumes nothing.
-use Rattle.std.proofs.Common.{◌≡◌, ℕ, List, length, get_or, ap, ◌∙◌, arith, rules}
+use Rattle.std.proofs.Common.{◌≡◌, ℕ, List, length, get_or, ap, ◌∙◌, arith}
 use Rattle.words.proofs.Fronts.{get_or_front}
 use Rattle.tile_blocks.proofs.TileParts.{part_ends}
 use Rattle.tile_blocks.proofs.tile_places.panel_starts.Goals as goal

@@ -2,7 +2,6 @@
 -- that is packed is the entry at the tile's counts.
 -- Assumes nothing.
 use native.Mathlib.Omega.{arith}
-use borrow.Author.Rules.{rules}
 use Rattle.groups.specs.Groups.{batch}
 use Rattle.tiles.specs.Grid.{cut_in}
 use Rattle.tile_blocks.specs.Side.{right}

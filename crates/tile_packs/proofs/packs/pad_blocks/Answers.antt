@@ -1,10 +1,8 @@
 -- `pad_blocks` meets its contract: the tile's blocks have as many places in use as its counts, and zeros past them leave both padded.
 -- Assumes nothing.
-use mathlib.Core.Path.{◌≡◌}
 use Prim.Native.Nat.{ℕ, ◌*◌, ◌≤◌}
-use native.Mathlib.Nat.{le_of_lt, mul-le-mul}
+use native.Mathlib.Nat.{le_of_lt}
 use native.Mathlib.Omega.{arith}
-use borrow.Author.Rules.{rules}
 use Rattle.tiles.specs.Cut.{Cut}
 use Rattle.tiles.specs.Grid.{cut_in}
 use Rattle.tiles.proofs.Cuts.{width_le}

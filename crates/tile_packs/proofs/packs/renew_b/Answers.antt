@@ -7,7 +7,6 @@ use Prim.Native.Nat.{ℕ, ◌*◌, ◌-◌, ◌≤◌}
 use native.Mathlib.Omega.{arith}
 use lib.Dec.{ltb}
 use lib.ListN.{length, length-take, length-drop}
-use borrow.Author.Rules.{rules}
 use borrow.Rule.Slice.PartMut.{mid_of, put_mid}
 use Rattle.plan.specs.declared.plan.Plan.{Plan}
 use Rattle.tiles.specs.declared.grid.Tile.{Tile}

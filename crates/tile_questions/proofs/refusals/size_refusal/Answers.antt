@@ -1,6 +1,5 @@
 -- `size_refusal` meets its contract.
 -- Assumes nothing.
-use borrow.Author.Rules.{rules}
 use borrow.Author.Tests.{eq-eqb, ne_eqb}
 use Rattle.tensor_answers.proofs.Refusal.{none_left, asked}
 use Rattle.tile_questions.specs.TileQuestions.{size_question}

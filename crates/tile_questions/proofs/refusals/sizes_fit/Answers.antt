@@ -1,6 +1,5 @@
 -- `sizes_fit` meets its contract: the answers of the three sizes are the question's.
 -- Assumes nothing.
-use borrow.Author.Rules.{rules}
 use Rattle.tile_questions.specs.TileQuestions.{sizes_fit}
 use Rattle.tile_questions.proofs.refusals.sizes_fit.Goals as goal
 

@@ -3,7 +3,6 @@
 use mathlib.Core.Path.{refl, ap}
 use mathlib.Core.Bool.{◌&&◌}
 use lib.Dec.{leb, ltb}
-use borrow.Author.Rules.{rules}
 use Rattle.tensor_answers.proofs.Refusal.{none_left, asked}
 use Rattle.tile_questions.specs.TileQuestions.{done_question, index_question}
 use Rattle.tile_questions.proofs.refusals.state_refusal.Goals as goal

@@ -4,9 +4,7 @@
 use mathlib.Core.Path.{refl, ap}
 use Prim.Native.Nat.{◌+◌, ◌*◌, ◌≤◌}
 use native.Mathlib.Nat.{mul-le-mul}
-use native.Mathlib.Omega.{arith}
 use lib.Dec.{leb}
-use borrow.Author.Rules.{rules}
 use Rattle.limits.specs.Limits.{rows_limit, cols_limit, depth_limit}
 use Rattle.tensor_answers.proofs.Refusal.{none_left, asked}
 use Rattle.tiles.specs.declared.grid.Grid.{Grid}

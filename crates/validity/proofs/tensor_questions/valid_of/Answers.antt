@@ -2,14 +2,11 @@
 -- are those of the axes from i on. The measure is i.
 -- Assumes nothing.
 use mathlib.Core.Path.{◌≡◌, refl}
-use Prim.Native.Nat.{◌≤◌}
 use native.Mathlib.Omega.{arith}
-use borrow.Author.Rules.{rules}
 use Rattle.words.proofs.Tabulate.{from, from_end, from_before}
 use Rattle.layout.specs.Layout.{no_axis}
 use Rattle.layout.specs.Listed.{listed}
 use Rattle.validity.specs.TensorQuestions.{letters_valid, extents_valid, strides_valid}
-use Rattle.validity.specs.Checked.{ValidOf}
 use Rattle.validity.proofs.tensor_questions.valid_of.Goals as goal
 
 pub loop-i-init : goal.loop-i-init

@@ -1,6 +1,5 @@
 -- `Operands::extent_in_c` meets its contract: C's axes are asked where C is named.
 -- Assumes nothing.
-use borrow.Author.Tests.{not-true, not-false}
 use Rattle.contraction.specs.Operands.{C}
 use Rattle.contraction.proofs.operands.Operands.extent_in_c.Goals as goal
 

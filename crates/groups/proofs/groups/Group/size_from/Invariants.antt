@@ -1,20 +1,13 @@
 -- `Group::size_from` meets its contract. The loop goes from the last label to the place; its invariant: the product is the size of the labels from i on.
 -- That is at most their product where an extent 0 counts as 1, which is at most that of all, and so fits 32 bits. The measure is i.
 -- Assumes nothing.
-use mathlib.Core.Path.{◌≡◌, refl, ap, sym, ◌∙◌}
-use mathlib.Core.List.{List, [], ◌∷◌, map}
-use Prim.Native.Nat.{ℕ, zero, suc, ◌-◌, ◌*◌, ◌<◌, ◌≤◌}
-use native.Mathlib.Nat.{mul-le-mul_right, le-max_left}
-use native.Mathlib.Omega.{arith}
-use lib.ListN.{get_or, drop}
-use Rattle.words.proofs.Tabulate.{from, from_end, from_before}
-use Rattle.limits.specs.Limits.{product_limit}
+use mathlib.Core.Path.{◌≡◌}
+use mathlib.Core.List.{List, map}
+use Prim.Native.Nat.{ℕ, ◌≤◌}
+use Rattle.words.proofs.Tabulate.{from}
 use Rattle.groups.specs.declared.groups.Dim.{Dim}
-use Rattle.groups.specs.declared.groups.Group.{Group}
-use Rattle.groups.specs.Groups.{Label, size}
-use Rattle.groups.specs.Held.{as_label, no_dim, labels_in}
-use Rattle.groups.specs.Foldable.{points_in, Foldable}
-use Rattle.groups.proofs.Points.{size_points}
+use Rattle.groups.specs.Groups.{size}
+use Rattle.groups.specs.Held.{as_label, no_dim}
 use Rattle.groups.proofs.groups.Group.size_from.Given as goal
 
 -- the size of the labels from place i on

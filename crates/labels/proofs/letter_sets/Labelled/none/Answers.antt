@@ -1,6 +1,6 @@
 -- `Labelled::none` meets its contract: no axis, and no letter.
 -- Assumes nothing.
-use Rattle.std.proofs.Common.{[], arith, rules}
+use Rattle.std.proofs.Common.{[], arith}
 use Rattle.validity.specs.TensorQuestions.{letters_valid, extents_valid, strides_valid}
 use Rattle.labels.specs.Labels.{labels}
 use Rattle.labels.proofs.Spelling.{spells_count}

@@ -1,6 +1,6 @@
 -- `Labelled::of` meets its contract: the letters are those of the axes, behind none.
 -- Assumes nothing.
-use Rattle.std.proofs.Common.{[], refl, arith, rules}
+use Rattle.std.proofs.Common.{[], refl, arith}
 use Rattle.labels.specs.Labels.{labels}
 use Rattle.labels.proofs.Spelling.{spells_itself, spells_count}
 use Rattle.labels.proofs.letter_sets.Labelled.of.Goals as goal

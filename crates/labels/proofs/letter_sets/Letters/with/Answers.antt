@@ -1,12 +1,10 @@
 -- `Letters::with` meets its contract: the set has the letter just where the list does, and a letter's bit tells it from all others.
 -- Assumes nothing.
-use Rattle.std.proofs.Common.{◌≡◌, true, false, eqb, [], ◌∷◌, length, sym, ◌∙◌, arith, rules}
+use Rattle.std.proofs.Common.{◌≡◌, true, false, eqb, [], ◌∷◌, sym, ◌∙◌, arith}
 use mathlib.Core.Bool.{or_comm, or-false}
-use lib.ListN.{length-map}
 use Rattle.words.specs.Lists.{member}
 use Rattle.words.proofs.Tabulate.{first_of_push}
 use Rattle.words.proofs.Lists.{member_append}
-use Rattle.limits.specs.Limits.{letters_limit}
 use Rattle.labels.specs.LetterSets.{spelled}
 use Rattle.labels.proofs.Spelling.{letter_code, same_letter}
 use Rattle.labels.proofs.letter_sets.Letters.with.Goals as goal

@@ -1,14 +1,12 @@
 -- `Letters::with_axes` meets its contract. The loop's invariant: whatever axes the letters were of, with the first i axes behind them the letters so far
 -- are the different ones, at most i more. The measure is what is left of the count.
 -- Assumes nothing.
-use Rattle.std.proofs.Common.{◌≡◌, ◌+◌, ◌-◌, ◌≤◌, List, ◌++◌, sym, subst, append-nil, arith}
+use Rattle.std.proofs.Common.{◌+◌, ◌-◌, ◌≤◌, List, ◌++◌}
 use Rattle.words.specs.Lists.{first_of}
 use Rattle.layout.specs.declared.layout.Axis.{Axis}
 use Rattle.layout.specs.Layout.{no_axis}
-use Rattle.layout.specs.Listed.{listed}
 use Rattle.labels.specs.Labels.{labels}
 use Rattle.labels.specs.LetterSets.{spelled, Spells}
-use Rattle.labels.proofs.Spelling.{letter_listed, labels_next, spells_itself}
 use Rattle.labels.proofs.letter_sets.Letters.with_axes.Given as goal
 
 abbrev pub invariant-loop-i : goal.invariant-loop-i

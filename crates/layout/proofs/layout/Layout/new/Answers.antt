@@ -1,6 +1,5 @@
 -- `Layout::new` meets its contract: its axes are those of `first_axes`, and the rest is what was handed in.
 -- Assumes nothing.
-use borrow.Author.Rules.{rules}
 use Rattle.layout.specs.Layout.{layout_of}
 use Rattle.layout.proofs.layout.Layout.new.Goals as goal
 

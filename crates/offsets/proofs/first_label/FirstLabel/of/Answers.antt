@@ -1,6 +1,6 @@
 -- `FirstLabel::of` meets its contract: with no label the group has one count, else it is the first, and one more of it moves by its strides.
 -- Assumes nothing.
-use Rattle.std.proofs.Common.{◌≡◌, ℕ, zero, suc, ◌-◌, ◌*◌, ◌^◌, ◌<◌, Bool, true, false, cond, ltb, List, [], ◌∷◌, map, get_or, drop, pos, negsuc, sym, refl, ap, ◌∙◌, arith, rules, ltb-true}
+use Rattle.std.proofs.Common.{◌≡◌, ℕ, zero, suc, ◌-◌, ◌*◌, ◌^◌, ◌<◌, Bool, true, false, cond, ltb, List, [], ◌∷◌, map, get_or, drop, pos, negsuc, sym, refl, ap, ◌∙◌, arith, ltb-true}
 use Rattle.words.specs.Words.{word, word_of, signed}
 use Rattle.words.specs.Lists.{first_of}
 use Rattle.contraction.specs.TensorPlaces.{by_tensor}

@@ -1,11 +1,8 @@
 -- `Offsets::times` meets its contract. The invariant: at the places of the first o tensors stand the products, which wrap. The measure is how many are left.
 -- Assumes nothing.
-use Rattle.std.proofs.Common.{◌≡◌, ℕ, ◌-◌, ◌*◌, ◌≤◌, get_or, sym, refl, arith}
-use Rattle.words.specs.Words.{word}
-use Rattle.words.specs.Fronts.{front}
+use Rattle.std.proofs.Common.{◌≡◌, sym, refl, arith}
 use Rattle.words.proofs.Fronts.{front_none}
 use Rattle.contraction.specs.TensorPlaces.{tensor_count}
-use Rattle.offsets.specs.declared.offsets.Offsets.{Offsets}
 use Rattle.offsets.proofs.OffsetWords.{next_place, by_places}
 use Rattle.offsets.proofs.offsets.Offsets.times.Invariants.{times_at}
 use Rattle.offsets.proofs.offsets.Offsets.times.Goals as goal

@@ -1,12 +1,10 @@
 -- `Offsets::times` meets its contract. The invariant: at the places of the first o tensors stand the products, which wrap. The measure is how many are left.
 -- Assumes nothing.
-use Rattle.std.proofs.Common.{◌≡◌, ℕ, ◌-◌, ◌*◌, ◌≤◌, get_or, sym, refl, arith}
+use Rattle.std.proofs.Common.{◌≡◌, ℕ, ◌-◌, ◌*◌, ◌≤◌, get_or}
 use Rattle.words.specs.Words.{word}
 use Rattle.words.specs.Fronts.{front}
-use Rattle.words.proofs.Fronts.{front_none}
 use Rattle.contraction.specs.TensorPlaces.{tensor_count}
 use Rattle.offsets.specs.declared.offsets.Offsets.{Offsets}
-use Rattle.offsets.proofs.OffsetWords.{next_place, by_places}
 use Rattle.offsets.proofs.offsets.Offsets.times.Given as goal
 
 -- the product at a place

@@ -6,7 +6,6 @@ use Rattle.layout.specs.Layout.{axes}
 use Rattle.entries.specs.EntryQuestions.{inside}
 use Rattle.tensor_answers.specs.OwnQuestions.{Lent}
 use Rattle.tensor_answers.proofs.Joined.{joined_refusal, joined_none}
-use borrow.Author.Rules.{rules}
 use Rattle.tensor_answers.proofs.tensor_answers.Answer.and.Goals as goal
 
 pub returns : goal.returns

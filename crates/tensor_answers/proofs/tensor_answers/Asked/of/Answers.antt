@@ -22,7 +22,6 @@ use Rattle.tensor_answers.specs.Asking.{refusal}
 use Rattle.tensor_answers.specs.OwnQuestions.{Lent, tensor_questions}
 use Rattle.tensor_answers.specs.Answers.{AskedOf}
 use Rattle.tensor_answers.proofs.Refusal.{fails, passes, passed, none_left, asked}
-use borrow.Author.Rules.{rules}
 use Rattle.tensor_answers.proofs.tensor_answers.Asked.of.Goals.{After-ask-number, Else-number-ne0}
 use Rattle.tensor_answers.proofs.tensor_answers.Asked.of.Goals as goal
 

@@ -1,6 +1,5 @@
 -- `Valid::with` meets its contract: each test of one axis more is that axis's test and the test of the others.
 -- Assumes nothing.
-use borrow.Author.Rules.{rules}
 use mir.Syntax.{w32}
 use mir.ValLaws.{to_z-of_z}
 use Rattle.validity.specs.TensorQuestions.{letters_valid, extents_valid, strides_valid}
