@@ -15,4 +15,5 @@ tile_sum work p r c = column_sum work p.rows (p.rows * p.depth + c) p.cols p.fil
 
 -- D's words with the sums of the tile's column c added at the places of its rows; `from` is where the tile's batch count leaves D
 abbrev pub column_stored : List ℕ → Packing → Factors → ℕ → List ℕ → List ℕ → ℕ → ℕ → List ℕ → List ℕ
-column_stored work p f from columns rows count c = each count (λ r. put (added_to f (word 32 (tile_sum work p r c))) (place_of (place_of from columns c) rows r))
+column_stored work p f from columns rows count c =
+    each count (λ r. put (added_to f (word 32 (tile_sum work p r c))) (place_of (place_of from columns c) rows r))

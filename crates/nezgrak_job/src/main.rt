@@ -51,7 +51,8 @@ fn load<R: Read>(from: &mut R, buf: &mut [u8]) -> io::Result<usize>
     Ok(at)
 }
 
-// Puts the text that answers a reader's bytes at the start of `text`; how long it is. No accepted job file is as long as the buffer, so that what is left of a longer one changes nothing in the answer.
+// Puts the text that answers a reader's bytes at the start of `text`; how long it is. No accepted job file is as long as the buffer, so that what is left of
+// a longer one changes nothing in the answer.
 fn put_answer<R: Read>(from: &mut R, text: &mut [u8; Limits::TEXT]) -> io::Result<usize>
     ensures bound { ReadsAtMost result text.new }
     ensures value { IfOk result (λ n. IfSome (R.remaining from.old)
