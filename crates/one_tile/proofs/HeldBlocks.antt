@@ -1,7 +1,7 @@
 -- The work slice between the tiles of a call. Packing a side leaves the tile's block of it, and the other block and the rest as they were. B's block depends on the
 -- tile's batch count, column block and panel alone, which it shares with the tile before unless its row block is the first.
 -- Assumes nothing.
-use mathlib.Core.Path.{◌≡◌, refl, ap, sym, ◌∙◌}
+use mathlib.Core.Path.{◌≡◌, refl, ap, ◌∙◌}
 use mathlib.Core.Bool.{Bool, true, false, cond, ◌&&◌}
 use mathlib.Core.Logic.{◌⊎◌, inl, inr}
 use mathlib.Core.List.{List}
@@ -21,7 +21,6 @@ use Rattle.tiles.specs.Grid.{TileOf}
 use Rattle.tiles.proofs.Cuts.{width_le}
 use Rattle.tile_blocks.specs.Side.{Side, left, right, both, size_on, tile_on, block_on}
 use Rattle.tile_packs.specs.TilePacks.{packs, side_width, panel_width, block_start, work_place, side_lanes, side_packed, renewed}
-use Rattle.phases.specs.Phases.{PackedIn}
 use Rattle.one_tile.specs.HeldPacks.{Holds, HeldAfter}
 
 module _ (p : Plan) (G : Cut) (x : Tile) (s : Side) (src work : List ℕ) where

@@ -19,7 +19,7 @@ use Rattle.limits.specs.Limits.{block_limit}
 use Rattle.contraction.specs.Operands.{Operand, C, D}
 use Rattle.plan.specs.declared.plan.Plan.{Plan}
 use Rattle.block.specs.declared.block.Block.{Block}
-use Rattle.block.specs.Places.{place_of, as_step, InLane, PlacesIn}
+use Rattle.block.specs.Places.{place_of, as_step, PlacesIn}
 use Rattle.kernel.specs.Kernel.{column_sum}
 use Rattle.accumulate.specs.declared.accumulate.Factors.{Factors}
 use Rattle.accumulate.specs.Added.{added_to}
@@ -33,10 +33,10 @@ use Rattle.tiles.specs.Cut.{Cut}
 use Rattle.tiles.specs.Grid.{Fits}
 use Rattle.tiles.specs.Setting.{Setting, panel_sum, add_panel, visit}
 use Rattle.tiles.specs.TileWalk.{tile_at}
-use Rattle.tiles.proofs.Cuts.{width_le, place_in_lem, panel_width_lem}
-use Rattle.tile_blocks.specs.Side.{Side, left, right, tensor_on, group_on, size_on, tile_on}
-use Rattle.tile_blocks.specs.Planned.{at_batch, place_in, place_of_output, plan_setting}
-use Rattle.tile_blocks.specs.TilePlaces.{block_in, Begins, Starts}
+use Rattle.tiles.proofs.Cuts.{width_le, panel_width_lem}
+use Rattle.tile_blocks.specs.Side.{Side, left, right}
+use Rattle.tile_blocks.specs.Planned.{at_batch, place_of_output, plan_setting}
+use Rattle.tile_blocks.specs.TilePlaces.{Begins}
 use Rattle.tile_packs.specs.TilePacks.{packs, side_width, panel_width}
 use Rattle.tile_packs.proofs.SideBlocks.{SideBlock, in_lane, count_in}
 use Rattle.phases.specs.Phases.{OutputClear, from_c, PackedIn}

@@ -5,19 +5,19 @@ use mathlib.Core.Path.{◌≡◌, refl, ap, sym, ◌∙◌}
 use mathlib.Core.Bool.{Bool, false}
 use mathlib.Core.Logic.{◌≢◌}
 use mathlib.Core.List.{List, []}
-use Prim.Native.Nat.{ℕ, ◌+◌, ◌-◌, ◌*◌, ◌<◌, ◌≤◌}
+use Prim.Native.Nat.{ℕ, ◌+◌, ◌*◌, ◌<◌, ◌≤◌}
 use native.Mathlib.Nat.{le_refl, le_trans, mul_comm}
 use native.Mathlib.Omega.{arith}
 use lib.Dec.{eqb}
 use lib.ListN.{length, get_or}
 use Rattle.words.specs.Words.{word}
 use Rattle.words.specs.Sums.{sum_to}
-use Rattle.words.specs.Loops.{each, put}
+use Rattle.words.specs.Loops.{put}
 use Rattle.words.proofs.Modular.{word_add_left}
 use Rattle.words.proofs.Loops.{each_ext, each_turned}
 use Rattle.words.proofs.Store.{put_pass}
 use Rattle.words.proofs.Sums.{sum_to_ext}
-use Rattle.limits.specs.Limits.{block_limit, depth_limit}
+use Rattle.limits.specs.Limits.{block_limit}
 use Rattle.contraction.specs.Operands.{A, B, D}
 use Rattle.groups.specs.Groups.{depth}
 use Rattle.groups.specs.Held.{labels_in}
@@ -32,13 +32,12 @@ use Rattle.tiles.specs.declared.grid.Tile.{Tile}
 use Rattle.tiles.specs.Cut.{Cut, width}
 use Rattle.tiles.specs.Grid.{Fits}
 use Rattle.tiles.specs.Setting.{panel_sum}
-use Rattle.tiles.proofs.Cuts.{width_le, panel_width_lem}
-use Rattle.tile_blocks.specs.Side.{Side, left, right, both, tensor_on, tile_on, size_on}
+use Rattle.tiles.proofs.Cuts.{panel_width_lem}
+use Rattle.tile_blocks.specs.Side.{Side, left, right, both, tensor_on, tile_on}
 use Rattle.tile_blocks.specs.Planned.{at_batch, plan_setting}
-use Rattle.tile_blocks.specs.TilePlaces.{block_in, Begins, Starts}
+use Rattle.tile_blocks.specs.TilePlaces.{Begins, Starts}
 use Rattle.tile_packs.specs.TilePacks.{side_width, panel_width}
 use Rattle.tile_packs.proofs.SideBlocks.{SideBlock, in_lane, count_in, place_at, side_packable}
-use Rattle.phases.specs.Phases.{OutputClear}
 use Rattle.phases.proofs.TileSteps.{place_out, places_in, sums_added}
 use Rattle.thin_lines.specs.ThinLines.{cross_sum, lines_added, LinesClear}
 use Rattle.thin_tile.specs.ThinTile.{TileClear, tile_added}

@@ -3,7 +3,7 @@
 use mathlib.Core.Path.{◌≡◌, refl, ap}
 use mathlib.Core.List.{List, [], ◌∷◌}
 use Prim.Native.Nat.{ℕ, ◌*◌, ◌<◌}
-use lib.ListN.{length, get_or}
+use lib.ListN.{get_or}
 use Rattle.words.specs.Sums.{All}
 use Rattle.words.proofs.Tabulate.{tabulate_ext}
 use Rattle.contraction.specs.declared.contraction.Contraction.{Contraction}

@@ -1,13 +1,13 @@
 -- Layers with nothing in them, in tiles. With depth size 0 there is one panel, and no term in it. With total 0 the count stays 0 whatever the calls are,
 -- and there is no output index, since each lies in a tile; so the closed form at 0 and the answers at 0 are what is left.
 -- Assumes nothing.
-use mathlib.Core.Path.{◌≡◌, refl, sym, ap, ap₂, ◌∙◌}
+use mathlib.Core.Path.{◌≡◌, refl, ap, ap₂, ◌∙◌}
 use mathlib.Core.Bool.{Bool, true, false, cond, ◌&&◌}
 use mathlib.Core.List.{List, [], ◌∷◌, map}
-use Prim.Native.Nat.{ℕ, zero, suc, ◌+◌, ◌-◌, ◌*◌, ◌<◌, ◌≤◌, min, zero-le}
+use Prim.Native.Nat.{ℕ, zero, suc, ◌+◌, ◌-◌, ◌*◌, ◌<◌, min, zero-le}
 use native.Mathlib.Nat.{mul-zero, add-zero, zero-lt-suc}
 use native.Mathlib.Omega.{arith}
-use lib.Dec.{T, eqb, ltb, ltb→lt}
+use lib.Dec.{eqb, ltb, ltb→lt}
 use lib.ListN.{length, get_or}
 use Rattle.words.specs.Words.{word}
 use Rattle.words.proofs.Sums.{and_split}
@@ -20,7 +20,7 @@ use Rattle.pack.proofs.Packing.{packed_unfilled}
 use Rattle.tiles.specs.declared.grid.Sizes.{Sizes}
 use Rattle.tiles.specs.Cut.{width, InSizes, KB, total, panel_of}
 use Rattle.tiles.specs.Progress.{old, final, done, state_at}
-use Rattle.tiles.specs.Setting.{closed, word_at, done_sum, walk, tiles_from}
+use Rattle.tiles.specs.Setting.{closed, word_at, tiles_from}
 use Rattle.tiles.specs.TileWalk.{walk_tiles}
 use Rattle.tiles.proofs.Cuts.{blocks_le}
 use Rattle.tiles.proofs.Sizes.{index_has_tile, tile_has_index}
@@ -33,9 +33,9 @@ use Rattle.tile_questions.proofs.TileSizes.{sizes_limited}
 use Rattle.tiling.specs.Work.{packed_block, packed_last, work_after}
 use Rattle.accept.proofs.Soundness.{at_in_range, sound}
 use Rattle.answers.specs.TileAnswer.{ran, tile_refused, tile_call_of}
-use Rattle.answers.specs.StateAnswer.{StateAnswer, is, state_refused}
+use Rattle.answers.specs.StateAnswer.{is, state_refused}
 use Rattle.tiled.specs.TileCall.{ran_call, tile_call}
-use Rattle.tiled.specs.Demand3.{Call, tiles, state, Answer, tiled, found, run, next, answer, count, answers}
+use Rattle.tiled.specs.Demand3.{Call, tiles, state, tiled, found, run, next, answer, count, answers}
 use Rattle.tiled.specs.EmptyTiles.{at_once, EmptyTiles, EmptyTilesHold}
 use Rattle.tiled.proofs.TileAnswered.{tile_answers}
 use Rattle.tiled.proofs.Demand3.{count_le, words_closed, demand3}

@@ -3,9 +3,9 @@
 -- Assumes nothing.
 use mathlib.Core.Path.{◌≡◌, refl, ap, sym, ◌∙◌}
 use mathlib.Core.List.{List, [], ◌∷◌, ◌++◌}
-use Prim.Native.Nat.{ℕ, ◌+◌, ◌-◌, ◌*◌, ◌≤◌, ◌<◌}
+use Prim.Native.Nat.{ℕ, ◌+◌, ◌*◌, ◌≤◌}
 use native.Mathlib.Omega.{arith}
-use lib.ListN.{length, get_or, drop, length-append, length-drop}
+use lib.ListN.{length, drop, length-append, length-drop}
 use lib.Seq.{ext_get_or, get_or-drop}
 use Rattle.words.specs.Lists.{tabulate}
 use Rattle.words.proofs.Tabulate.{length_tabulate, tabulate_ext}
@@ -14,11 +14,11 @@ use Rattle.plan.specs.declared.plan.Plan.{Plan}
 use Rattle.tiles.specs.declared.grid.Tile.{Tile}
 use Rattle.tiles.specs.Cut.{Cut}
 use Rattle.tiles.specs.Grid.{TileOf}
-use Rattle.tile_blocks.specs.Side.{Side, left, right, tile_on}
+use Rattle.tile_blocks.specs.Side.{Side, left, right}
 use Rattle.tile_blocks.specs.Planned.{read_in}
 use Rattle.tile_packs.specs.TilePacks.{packs, padded_word, padded}
 use Rattle.tiling.specs.Work.{packed_block, packed, packed_last}
-use Rattle.one_tile.specs.HeldPacks.{Holds, HeldAfter}
+use Rattle.one_tile.specs.HeldPacks.{HeldAfter}
 
 module _ (G : Cut) (entry : Side → ℕ → ℕ → ℕ → ℕ) where
   pub length_packed : (n : ℕ) (work : List ℕ) → packs G ≤ length work → length (packed G entry n work) ≡ length work

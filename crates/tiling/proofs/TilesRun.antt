@@ -1,27 +1,23 @@
 -- What a loop over tiles keeps: the tiles so far were walked, and what is packed is the last tile's; in the end the blocks of the last tile with zeros past their edges.
 -- Assumes nothing.
-use mathlib.Core.Path.{◌≡◌, refl, ap, sym, ◌∙◌, subst}
+use mathlib.Core.Path.{◌≡◌, refl, ap, sym, ◌∙◌}
 use mathlib.Core.Bool.{Bool, true, false, true≢false}
 use mathlib.Core.List.{List, [], ◌∷◌, ◌++◌}
 use Prim.Native.Nat.{ℕ, suc, ◌+◌, ◌-◌, ◌<◌, ◌≤◌}
 use native.Mathlib.Omega.{arith}
 use lib.Dec.{eqb}
 use lib.ListN.{length, get_or}
-use borrow.Author.Rules.{rules}
 use borrow.Author.Tests.{eq-eqb}
-use Rattle.words.proofs.Tabulate.{length_tabulate}
 use Rattle.plan.specs.declared.plan.Plan.{Plan}
 use Rattle.tiles.specs.declared.grid.Tile.{Tile}
 use Rattle.tiles.specs.Cut.{Cut}
-use Rattle.tiles.specs.Grid.{cut_in, TileOf}
+use Rattle.tiles.specs.Grid.{TileOf}
 use Rattle.tiles.specs.TileWalk.{walk_tiles}
 use Rattle.tiles.specs.Setting.{Setting, visit, tile_step, walk, tiles_from}
-use Rattle.tiles.proofs.Sizes.{sum_of_small}
 use Rattle.tiles.proofs.Visits.{tiles_next, walk_next}
 use Rattle.tiles.proofs.Closed.{length_walk}
-use Rattle.tile_blocks.specs.Planned.{read_in, plan_setting, Clear}
-use Rattle.tile_blocks.specs.Side.{Side, right}
-use Rattle.tile_blocks.proofs.TileParts.{tile_begins}
+use Rattle.tile_blocks.specs.Planned.{read_in, plan_setting}
+use Rattle.tile_blocks.specs.Side.{Side}
 use Rattle.tile_packs.specs.TilePacks.{packs, padded}
 use Rattle.tiling.specs.Work.{packed_last}
 use Rattle.one_tile.specs.HeldPacks.{Holds, AfterTile}

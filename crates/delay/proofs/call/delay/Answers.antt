@@ -2,7 +2,6 @@
 -- Assumes nothing.
 use mathlib.Core.Path.{sym, ◌∙◌}
 use native.Mathlib.Omega.{arith}
-use borrow.Author.Rules.{rules}
 use Rattle.scores.specs.Score.{signed_at}
 use Rattle.scores.proofs.BestLag.{best_is}
 use Rattle.scores.proofs.DelaySound.{delay_sound}

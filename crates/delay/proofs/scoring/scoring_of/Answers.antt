@@ -1,7 +1,6 @@
 -- `scoring_of` meets its contract: the three layouts are those of the definition.
 -- Assumes nothing.
 use mathlib.Core.Path.{◌∙◌}
-use borrow.Author.Rules.{rules}
 use Rattle.contraction.specs.Operands.{contraction_of}
 use Rattle.delay.specs.Scoring.{scoring}
 use Rattle.delay.proofs.scoring.scoring_of.Goals as goal

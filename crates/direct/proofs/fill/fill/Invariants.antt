@@ -2,23 +2,15 @@
 -- address words are where it begins. A turn fills the places of that run or of four, which are those of the counts from len × m on. The measure is how many runs
 -- are left.
 -- Assumes nothing.
-use mathlib.Core.Path.{◌≡◌, refl, ap, sym, ◌∙◌}
-use mathlib.Core.List.{List}
-use Prim.Native.Nat.{ℕ, ◌+◌, ◌-◌, ◌*◌, ◌<◌, ◌≤◌}
-use native.Mathlib.Nat.{mul-zero, mul-add}
-use native.Mathlib.Omega.{arith}
-use borrow.Author.Rules.{rules}
+use mathlib.Core.Path.{◌≡◌}
+use Prim.Native.Nat.{◌-◌, ◌*◌, ◌<◌, ◌≤◌}
 use lib.ListN.{length, drop}
 use Rattle.words.specs.Loops.{each}
-use Rattle.words.proofs.Loops.{each_add}
 use Rattle.limits.specs.Limits.{labels_limit}
 use Rattle.offsets.specs.Offsets.{words_in}
-use Rattle.offsets.proofs.OwnedWords.{words_fit}
 use Rattle.odometer.specs.Odometer.{Stands}
 use Rattle.sums.specs.Walk.{places, over}
-use Rattle.sums.proofs.GroupRuns.{first_run}
 use Rattle.output_run.specs.FilledOutput.{filled}
-use Rattle.next_runs.proofs.RunsSoFar.{behind}
 use Rattle.direct.proofs.fill.fill.Given as goal
 
 abbrev pub invariant-loop-m : goal.invariant-loop-m

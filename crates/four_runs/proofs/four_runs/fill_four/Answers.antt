@@ -2,10 +2,8 @@
 -- words of each run are v steps from its first. A turn fills a block of the next counts of each run, or those that are left. The measure is how many are left.
 -- Assumes nothing.
 use mathlib.Core.Path.{◌≡◌, refl, ◌∙◌}
-use Prim.Native.Nat.{ℕ, ◌+◌, ◌-◌, ◌<◌, ◌≤◌}
+use Prim.Native.Nat.{ℕ, ◌+◌, ◌<◌, ◌≤◌}
 use native.Mathlib.Omega.{arith}
-use borrow.Author.Rules.{rules}
-use lib.ListN.{length}
 use Rattle.words.specs.Loops.{each}
 use Rattle.offsets.specs.declared.offsets.Offsets.{Offsets}
 use Rattle.offsets.specs.Offsets.{words_in}
@@ -14,7 +12,7 @@ use Rattle.sums.specs.Walk.{steps, over}
 use Rattle.outputs.proofs.Blocks.{steps_first, leapt, block_clear}
 use Rattle.four_lanes.specs.FourLanes.{of_run}
 use Rattle.four_lanes.proofs.ByRun.{by_run, by_runs}
-use Rattle.four_runs.specs.FourRuns.{four_filled, Apart}
+use Rattle.four_runs.specs.FourRuns.{Apart}
 use Rattle.four_runs.proofs.FourBlocks.{shared_blocks, four_turn}
 use Rattle.four_runs.proofs.four_runs.fill_four.Goals as goal
 

@@ -1,8 +1,7 @@
 -- `clear` meets its contract. The invariant: the first k words are `-`, the others as they were. A turn stores one more. The measure is how many are left.
 -- Assumes nothing.
-use Rattle.std.proofs.Common.{◌-◌, length, refl, arith, rules}
-use Rattle.words.proofs.Filled.{Filled, filled_none, filled_more, filled_all}
-use Rattle.letters.specs.PrintedLetters.{outside}
+use Rattle.std.proofs.Common.{refl, rules}
+use Rattle.words.proofs.Filled.{filled_none, filled_more, filled_all}
 use Rattle.letters.proofs.letters.clear.Goals as goal
 
 pub loop-k-init : goal.loop-k-init

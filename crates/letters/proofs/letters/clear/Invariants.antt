@@ -1,7 +1,7 @@
 -- `clear` meets its contract. The invariant: the first k words are `-`, the others as they were. A turn stores one more. The measure is how many are left.
 -- Assumes nothing.
-use Rattle.std.proofs.Common.{◌-◌, length, refl, arith, rules}
-use Rattle.words.proofs.Filled.{Filled, filled_none, filled_more, filled_all}
+use Rattle.std.proofs.Common.{◌-◌, length}
+use Rattle.words.proofs.Filled.{Filled}
 use Rattle.letters.specs.PrintedLetters.{outside}
 use Rattle.letters.proofs.letters.clear.Given as goal
 

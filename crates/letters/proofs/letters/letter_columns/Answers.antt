@@ -1,11 +1,9 @@
 -- `letter_columns` meets its contract. The invariant: the words are those that the first j turns leave. The measure is how many are left.
 -- Assumes nothing.
-use Rattle.std.proofs.Common.{◌-◌, sym, subst, arith}
-use Rattle.words.specs.Loops.{each}
-use Rattle.tiles.specs.Grid.{cut_in}
+use Rattle.std.proofs.Common.{sym, subst, arith}
 use Rattle.tiles.proofs.Sizes.{N_small}
-use Rattle.letters.specs.Placed.{Placed, lettered}
-use Rattle.letters.proofs.LetterLoops.{Turns, turns_none, turns_next, turns_all}
+use Rattle.letters.specs.Placed.{Placed}
+use Rattle.letters.proofs.LetterLoops.{turns_none, turns_next, turns_all}
 use Rattle.letters.proofs.letters.letter_columns.Goals as goal
 
 pub loop-j-init : goal.loop-j-init

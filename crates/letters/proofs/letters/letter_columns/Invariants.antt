@@ -1,11 +1,10 @@
 -- `letter_columns` meets its contract. The invariant: the words are those that the first j turns leave. The measure is how many are left.
 -- Assumes nothing.
-use Rattle.std.proofs.Common.{◌-◌, sym, subst, arith}
+use Rattle.std.proofs.Common.{◌-◌}
 use Rattle.words.specs.Loops.{each}
 use Rattle.tiles.specs.Grid.{cut_in}
-use Rattle.tiles.proofs.Sizes.{N_small}
-use Rattle.letters.specs.Placed.{Placed, lettered}
-use Rattle.letters.proofs.LetterLoops.{Turns, turns_none, turns_next, turns_all}
+use Rattle.letters.specs.Placed.{lettered}
+use Rattle.letters.proofs.LetterLoops.{Turns}
 use Rattle.letters.proofs.letters.letter_columns.Given as goal
 
 abbrev pub invariant-loop-j : goal.invariant-loop-j

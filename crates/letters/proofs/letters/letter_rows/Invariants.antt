@@ -1,11 +1,9 @@
 -- `letter_rows` meets its contract. The invariant: the words are those that the letters of the first i row counts leave, each put where the code's sum
 -- of address words says, which is the plan's place. The measure is how many are left.
 -- Assumes nothing.
-use Rattle.std.proofs.Common.{◌-◌, ◌∙◌, arith, length-set}
-use Rattle.groups.specs.Groups.{batch, row as rowGroup, column}
+use Rattle.std.proofs.Common.{◌-◌}
 use Rattle.tiles.specs.Grid.{cut_in}
-use Rattle.tiles.proofs.Sizes.{M_small}
-use Rattle.letters.proofs.LetterLoops.{Turns, turns_none, turns_next, turns_all, grid_sizes, plan_place, code_place, row_letter, row_next, rows_lettered}
+use Rattle.letters.proofs.LetterLoops.{Turns, row_letter}
 use Rattle.letters.proofs.letters.letter_rows.Given as goal
 
 abbrev pub invariant-loop-i : goal.invariant-loop-i

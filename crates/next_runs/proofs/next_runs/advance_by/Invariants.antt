@@ -1,12 +1,9 @@
 -- `advance_by` meets its contract. The invariant: the digits and address words are those of the i-th count after the first. The measure is how many are left.
 -- Assumes nothing.
-use mathlib.Core.Path.{◌≡◌, refl, ◌∙◌}
+use mathlib.Core.Path.{◌≡◌}
 use Prim.Native.Nat.{◌-◌, ◌≤◌}
-use native.Mathlib.Omega.{arith}
-use borrow.Author.Rules.{rules}
 use lib.ListN.{length}
 use Rattle.next_runs.specs.NextRuns.{Moved}
-use Rattle.next_runs.proofs.Carrying.{moved_none, moved_more}
 use Rattle.next_runs.proofs.next_runs.advance_by.Given as goal
 
 abbrev pub invariant-loop-i : goal.invariant-loop-i

@@ -1,9 +1,6 @@
 -- `look_ahead` meets its contract: each run begins where the digits and address words of the one before are carried to.
 -- Assumes nothing.
-use mathlib.Core.Path.{sym}
-use mathlib.Core.Bool.{true≢false}
 use native.Mathlib.Omega.{arith}
-use borrow.Author.Rules.{rules}
 use Rattle.next_runs.proofs.Carrying.{three_ahead}
 use Rattle.next_runs.proofs.next_runs.look_ahead.Goals as goal
 

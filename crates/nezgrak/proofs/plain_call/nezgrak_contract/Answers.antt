@@ -1,6 +1,5 @@
 -- `nezgrak_contract` meets its contract: it hands on what the plain call answers for the contraction that is handed in.
 -- Assumes nothing.
-use borrow.Author.Rules.{rules}
 use Rattle.nezgrak.proofs.Handed.{plain_handed, plain_unnamed}
 use Rattle.nezgrak.proofs.plain_call.nezgrak_contract.Goals as goal
 

@@ -1,6 +1,5 @@
 -- `nezgrak_state` meets its contract: it hands on what the state question answers for the contraction that is handed in.
 -- Assumes nothing.
-use borrow.Author.Rules.{rules}
 use Rattle.nezgrak.proofs.Handed.{state_handed, state_unnamed}
 use Rattle.nezgrak.proofs.state_call.nezgrak_state.Goals as goal
 

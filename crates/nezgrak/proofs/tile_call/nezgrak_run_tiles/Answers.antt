@@ -1,6 +1,5 @@
 -- `nezgrak_run_tiles` meets its contract: it hands on what the tile call answers for the contraction that is handed in.
 -- Assumes nothing.
-use borrow.Author.Rules.{rules}
 use Rattle.nezgrak.proofs.Handed.{tiles_handed, tiles_unnamed}
 use Rattle.nezgrak.proofs.tile_call.nezgrak_run_tiles.Goals as goal
 

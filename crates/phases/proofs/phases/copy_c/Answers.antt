@@ -2,7 +2,6 @@
 -- place of the same output index in D.
 -- Assumes nothing.
 use native.Mathlib.Omega.{arith}
-use borrow.Author.Rules.{rules}
 use Rattle.groups.specs.Groups.{batch}
 use Rattle.tiles.specs.Grid.{cut_in}
 use Rattle.tile_blocks.specs.Side.{left, right}

@@ -3,7 +3,6 @@
 -- Assumes nothing.
 use mathlib.Core.Path.{refl}
 use native.Mathlib.Omega.{arith}
-use borrow.Author.Rules.{rules}
 use Rattle.groups.specs.Groups.{batch}
 use Rattle.tiles.specs.Grid.{cut_in}
 use Rattle.tile_blocks.specs.Side.{left, right}

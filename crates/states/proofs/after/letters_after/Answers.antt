@@ -1,10 +1,8 @@
 -- `letters_after` meets its contract: the plan and the grid are those of an accepted contraction, so the grid's cut is the contraction's, and each
 -- place that the plan gives is the address.
 -- Assumes nothing.
-use mathlib.Core.Path.{◌≡◌, ◌∙◌}
-use borrow.Author.Rules.{rules}
+use mathlib.Core.Path.{◌∙◌}
 use Rattle.contraction.specs.Operands.{four}
-use Rattle.meaning.specs.Meaning.{Slices}
 use Rattle.states.proofs.Lettering.{none_refused, all_tiles, all_placed, all_lettered}
 use Rattle.states.proofs.after.letters_after.Goals as goal
 

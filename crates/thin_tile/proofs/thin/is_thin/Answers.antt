@@ -3,7 +3,6 @@
 use mathlib.Core.Bool.{◌&&◌, ◌||◌}
 use native.Mathlib.Nat.{le_of_lt}
 use lib.Dec.{leb}
-use borrow.Author.Rules.{rules}
 use Rattle.tile_blocks.specs.Side.{left, right}
 use Rattle.thin_tile.specs.ThinTile.{is_thin}
 use Rattle.thin_tile.proofs.thin.is_thin.Goals as goal

@@ -1,6 +1,5 @@
 -- `starts_in` meets its contract: the panel begins inside the depth group, and the tensor stands where the tile's batch count leaves it.
 -- Assumes nothing.
-use native.Mathlib.Omega.{arith}
 use Rattle.groups.specs.Groups.{batch}
 use Rattle.tile_blocks.proofs.TileParts.{batch_in, panel_part}
 use Rattle.thin_tile.proofs.thin.starts_in.Goals as goal

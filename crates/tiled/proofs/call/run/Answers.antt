@@ -8,7 +8,6 @@ use native.Mathlib.Nat.{mul_comm}
 use native.Mathlib.Omega.{arith}
 use lib.Dec.{eqb}
 use lib.ListN.{length}
-use borrow.Author.Rules.{rules}
 use borrow.Author.Tests.{leb-true}
 use Rattle.words.proofs.Tabulate.{length_tabulate}
 use Rattle.contraction.specs.declared.contraction.Contraction.{Contraction}

@@ -6,7 +6,6 @@ use mathlib.Core.Bool.{◌&&◌}
 use mathlib.Core.List.{◌++◌}
 use Prim.Native.Nat.{ℕ, ◌<◌}
 use lib.Dec.{ltb, ltb→lt}
-use borrow.Author.Rules.{rules}
 use Rattle.words.proofs.Sums.{and_split}
 use Rattle.contraction.specs.declared.contraction.Contraction.{Contraction}
 use Rattle.contraction.specs.Operands.{four, tensors}
