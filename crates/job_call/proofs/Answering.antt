@@ -35,7 +35,7 @@ report_room few h = omega arith
 pub report_text_lem : (t : ℕ) (d : List ℕ) {n n' : ℕ} {ls ls' : List ℕ} → n ≡ n' → ls ≡ ls' → report_text t n d ls ≡ report_text t n' d ls'
 report_text_lem t d e f = rw (e, f)
 
--- n zeros, as the work array holds them and as the definition has them. Over any n: as many as workRoom take antt too long to compare one by one
+-- n zeros, as the work array holds them and as the definition has them. Over any n: as many as work_room take antt too long to compare one by one
 zeros : (n : ℕ) → replicate {A = ℕ} n 0 ≡ tabulate n (λ k. 0)
 zeros zero = refl
 zeros (suc n) = ap (λ (l : List ℕ). 0 ∷ l) (zeros n)

@@ -9,7 +9,7 @@ abbrev kinds : ℕ → List ℕ → List Kind
 kinds first seconds = map (λ second. kind_of (first + 256 * second)) seconds
 
 pub record MarkCases : Type 0 where
-  -- "`LA` `LB` `LD`", "`WA` `Wb` `WD`", "`YA` `YB` `YD` may replace these", "`GO`"; "In the job file `LC` and `WC` may follow B's words"
+  -- "`LA` `LB` `LD`", "`WA` `WB` `WD`", "`YA` `YB` `YD` may replace these", "`GO`"; "In the job file `LC` and `WC` may follow B's words"
   pub layouts : kinds 76 (65 ∷ 66 ∷ 67 ∷ 68 ∷ []) ≡ Kind.Layout 65 ∷ Kind.Layout 66 ∷ Kind.Layout 67 ∷ Kind.Layout 68 ∷ []
   pub words : kinds 87 (65 ∷ 66 ∷ 67 ∷ 68 ∷ []) ≡ Kind.Words 65 ∷ Kind.Words 66 ∷ Kind.Words 67 ∷ Kind.Words 68 ∷ []
   pub bytes : kinds 89 (65 ∷ 66 ∷ 68 ∷ []) ≡ Kind.Bytes 65 ∷ Kind.Bytes 66 ∷ Kind.Bytes 68 ∷ []
