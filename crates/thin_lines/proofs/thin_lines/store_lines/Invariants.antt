@@ -7,7 +7,7 @@ use Rattle.thin_lines.proofs.thin_lines.store_lines.Given as goal
 
 abbrev pub invariant-loop-q : goal.invariant-loop-q
 invariant-loop-q l =
-    (l.q ≤ l.m) × (length l.d ≡ length l.initial.d) × (l.d ≡ lines_added l.f (cross_sum l.long l.starts l.offsets l.short l.begins l.places l.filled) l.from l.lines l.q l.to l.n l.initial.d)
+    (l.q ≤ l.m) × (length l.d ≡ length l.initial.d) × (l.d ≡ lines_added l.f (cross_sum l.long l.starts l.offsets l.short l.begins l.fn.s.offsets l.filled) l.from l.lines l.q l.to l.n l.initial.d)
 
 abbrev pub decreases-loop-q : goal.decreases-loop-q
 decreases-loop-q l = l.m - l.q
