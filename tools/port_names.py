@@ -67,7 +67,7 @@ def declared():
         for line in read(path).split("\n"):
             line = line.split(" -- ")[0]
             found = DECLARED.match(line)
-            if found and not found[2].startswith("tie.") and not line.lstrip().startswith("--"):
+            if found and not found[2].startswith(("tie.", "goal.")) and not line.lstrip().startswith("--"):
                 names.setdefault(found[1], set()).add(path)
     return names
 

@@ -23,6 +23,8 @@ ERROR = re.compile(r"^(?:\./)?(\S+?):\d+:\d+: error: (?:`([^`]*)`: )?(.*(?:\n  .
 # What only follows from another error, and a gap, of which nothing is said but that it is there.
 FOLLOWS = re.compile(r"`[^`]*` was not admitted|\d+ declarations? that depends? on ")
 GAP = re.compile(r"`[^`]*` is not admitted: unsolved")
+# A line that is cut off before it says whether a name is gone.
+CUT = re.compile(r"(?:`[^`]*`: )?(?:record|module) `[^`]*$|`[^`]*$")
 # What is said of a proof that was written for other code: names that are gone, terms where something else belongs.
 MISFIT = re.compile(
     r"(?:`[^`]*`: )?(?:"
@@ -49,7 +51,7 @@ def flaw(crate, name, said):
         return said or "rt ci said nothing of it"
     reason = said.removeprefix(REFUSED)
     error = ERROR.match(reason)
-    has_gap = error and GAP.match(error[3])
+    has_gap = error and (GAP.match(error[3]) or CUT.match(error[3]))
     if error and not has_gap and is_misfit(*error.groups()):
         return f"the proofs no longer fit: {reason}"
     if not error and not UNPROVED.match(reason):

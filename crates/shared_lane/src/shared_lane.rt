@@ -37,6 +37,7 @@ pub fn add_lane_to_four(
 }
 
 // The same, for lanes of which most are as long as a block: their length is a constant here, by which the compiler makes a quicker loop of it.
+#[tactic(auto, using(crate::proofs::WholeLane::along_whole))]
 pub fn add_block_lane_to_four(
     s0: &mut [u32; Limits::BLOCK],
     s1: &mut [u32; Limits::BLOCK],
