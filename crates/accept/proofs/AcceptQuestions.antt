@@ -6,7 +6,8 @@ use mathlib.Core.List.{List, ◌++◌}
 use Prim.Native.Nat.{ℕ}
 use lib.ListN.{length}
 use Rattle.contraction.specs.declared.contraction.Contraction.{Contraction}
-use Rattle.contraction.specs.Operands.{Operand, four, of_tensors, tensors}
+use Rattle.contraction.specs.Operands.{four, of_tensors, tensors}
+use Rattle.contraction.specs.declared.contraction.Operand.{Operand}
 use Rattle.tensor_answers.specs.Asking.{refusal}
 use Rattle.tensor_answers.specs.OwnQuestions.{tensor_questions}
 use Rattle.questions.specs.Questions.{label_questions, entry_questions, layout_questions}

@@ -16,7 +16,9 @@ use Rattle.limits.specs.Limits.{product_limit}
 use Rattle.layout.specs.Layout.{address}
 use Rattle.points.specs.LabelQuestions.{points, points_fit}
 use Rattle.contraction.specs.declared.contraction.Contraction.{Contraction}
-use Rattle.contraction.specs.Operands.{Operand, A, B, D, tensors, together}
+use Rattle.contraction.specs.Operands.{tensors, together}
+use Rattle.contraction.specs.declared.contraction.Operand.{Operand}
+use Rattle.contraction.specs.declared.contraction.Operand.TheVariants.{A, B, D}
 use Rattle.questions.proofs.Ready.{AllPassed}
 use Rattle.groups.specs.Groups.{Label, Group, batch, row, column, depth, group, size}
 use Rattle.groups.specs.Held.{labels_in}

@@ -17,7 +17,9 @@ use Rattle.points.specs.LabelQuestions.{letters_same}
 use Rattle.entries.specs.Bounds.{InRange}
 use Rattle.entries.proofs.Bounds.{inside_every}
 use Rattle.contraction.specs.declared.contraction.Contraction.{Contraction}
-use Rattle.contraction.specs.Operands.{Operand, A, B, C, D, tensors}
+use Rattle.contraction.specs.Operands.{named, tensors}
+use Rattle.contraction.specs.declared.contraction.Operand.{Operand}
+use Rattle.contraction.specs.declared.contraction.Operand.TheVariants.{A, B, C, D}
 use Rattle.questions.proofs.Ready.{AllPassed}
 use Rattle.groups.specs.Groups.{Group, batch, row, column, depth, in_group, group}
 use Rattle.meaning.specs.Index.{index}
@@ -51,7 +53,7 @@ setting_same c z v w e f g = λ x. setting_by (cut_of c z) (address_at c) (on le
     on s words h m k = get_or words (address (tensors c (tensor_on s)) (index (shape_in c) ((depth, k) ∷ (batch, h) ∷ (group_on s, m) ∷ []))) 0
 
     from : List ℕ → ℕ → ℕ → ℕ → ℕ → ℕ
-    from words h i j old = start_of c.named (get_or words (address (tensors c C) (output_index c h i j)) 0) old
+    from words h i j old = start_of (named c) (get_or words (address (tensors c C) (output_index c h i j)) 0) old
 
 -- the parts of the index of a batch, a row and a column count
 abbrev parts : Contraction → ℕ → ℕ → ℕ → List Part
@@ -96,11 +98,11 @@ module _ (c : Contraction) (z : Sizes) (w : Slices) (ok : AllPassed (tensors c) 
   own_places = record { inside = inside; apart = apart }
 
   -- all that the tiles of the contraction's plan read and write is inside, and what they write is apart
-  pub clear : (p : Plan) → Planned (tensors c) p → Clear p (cut_of c z) c.named (length (w A)) (length (w B)) (length (w C)) (length (w D))
+  pub clear : (p : Plan) → Planned (tensors c) p → Clear p (cut_of c z) (named c) (length (w A)) (length (w B)) (length (w C)) (length (w D))
   clear p q =
       record {
         in_side = in_side_lem;
-        in_c = λ e h i j bh bi bj. subst (λ (named : Bool). place_of_output p C h i j < cond named (length (w C)) (length (w D))) e (out_entry c n ok p q C refl h i j bh bi bj).inside;
+        in_c = λ e h i j bh bi bj. subst (λ (b : Bool). place_of_output p C h i j < cond b (length (w C)) (length (w D))) e (out_entry c n ok p q C refl h i j bh bi bj).inside;
         places = record { inside = λ h i j b. (out_entry c n ok p q D refl h i j b.0 b.1 b.2).inside; apart = λ h i j h' i' j' b b' e. apart h i j h' i' j' b b' (sym (at h i j b) ∙ e ∙ at h' i' j' b') };
       }
     where
@@ -131,7 +133,7 @@ module _ (c : Contraction) (z : Sizes) (w : Slices) (ok : AllPassed (tensors c) 
       ∙ ap (λ (x : ℕ). word 32 (c.beta * start + c.alpha * x)) (sum_to_ext K (λ k b. term_own c w ok.same h i j k))
     where
       start : ℕ
-      start = start_of c.named (entry c w C (output_index c h i j)) (entry c w D (output_index c h i j))
+      start = start_of (named c) (entry c w C (output_index c h i j)) (entry c w D (output_index c h i j))
 
   -- and its old words elsewhere
   result_miss : (x : ℕ) → ((h i j : ℕ) → InSizes (cut_of c z) h i j → address_at c h i j ≢ x) → get_or (result c w) x 0 ≡ get_or (w D) x 0

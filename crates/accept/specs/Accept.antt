@@ -1,8 +1,11 @@
 -- What a call of the tiled engine starts from. Inside contracts only.
 -- Assumes nothing.
-use Rattle.std.specs.Prelude.{ℕ, ◌≡◌, ◌++◌}
+use Rattle.std.specs.Prelude.{ℕ, ◌≡◌, ◌++◌, Result, IfOk}
+use Rattle.refusals.specs.declared.refusal.Refusal.{Refusal}
+use Rattle.refusals.specs.Numbers.{status}
 use Rattle.contraction.specs.declared.contraction.Contraction.{Contraction}
-use Rattle.contraction.specs.Operands.{Operand, tensors}
+use Rattle.contraction.specs.Operands.{tensors}
+use Rattle.contraction.specs.declared.contraction.Operand.{Operand}
 use Rattle.tensor_answers.specs.Asking.{refusal}
 use Rattle.questions.specs.Questions.{layout_questions}
 use Rattle.plan.specs.Plan.{Planned}
@@ -11,8 +14,12 @@ use Rattle.tile_blocks.specs.Planned.{GridOf}
 use Rattle.tile_questions.specs.TileQuestions.{size_question}
 use Rattle.accept.specs.declared.accept.Accept.{Accept}
 
--- the number that questions 1 to 10 refuse with, and where that is 0 the contraction's plan and the grid of its tiles
-pub record AcceptOf (c : Contraction) (z : Sizes) (n : Operand → ℕ) (r : Accept) : Type 0 where
-  pub number : r.number ≡ refusal (layout_questions (tensors c) n ++ size_question z)
-  pub plan : r.number ≡ 0 → Planned (tensors c) r.plan
-  pub grid : r.number ≡ 0 → GridOf r.plan r.grid × (r.grid.sizes ≡ z)
+-- a contraction that questions 1 to 10 accept: its plan and the grid of its tiles
+pub record PlannedIn (c : Contraction) (z : Sizes) (x : Accept) : Type 0 where
+  pub plan : Planned (tensors c) x.plan
+  pub grid : GridOf x.plan x.grid × (x.grid.sizes ≡ z)
+
+-- the number that questions 1 to 10 refuse with, and where none refuses what the contraction starts from
+pub record AcceptOf (c : Contraction) (z : Sizes) (n : Operand → ℕ) (r : Result Accept Refusal) : Type 0 where
+  pub number : status r ≡ refusal (layout_questions (tensors c) n ++ size_question z)
+  pub planned : IfOk r (PlannedIn c z)

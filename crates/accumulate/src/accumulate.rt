@@ -1,9 +1,10 @@
-ghost use Rattle.std.specs.Prelude.{◌≡◌, ◌+◌, ◌<◌, ◌≤◌, length, slice_index};
+ghost use Rattle.std.specs.Prelude.{◌≡◌, ℕ, ◌+◌, ◌<◌, ◌≤◌, length, slice_index};
 ghost use Rattle.words.specs.Loops.{put, Within};
 ghost use Rattle.words.specs.Stepped.{stepped};
 ghost use Rattle.limits.specs.Limits.{block_limit};
 ghost use Rattle.block.specs.Places.{place_of};
 ghost use Rattle.accumulate.specs.Added.{added_to, all_added};
+ghost use Rattle.accumulate.specs.Changes.{Makes};
 
 use limits::limits::Limits;
 
@@ -21,9 +22,9 @@ pub fn added(f: Factors, sum: u32, old: u32) -> u32
 {
     let more = words::mul(f.alpha, sum);
     if f.first {
-        std::num::wrapping_add_u32(words::mul(f.beta, old), more)
+        words::mul(f.beta, old).wrapping_add(more)
     } else {
-        std::num::wrapping_add_u32(old, more)
+        old.wrapping_add(more)
     }
 }
 
@@ -39,7 +40,7 @@ pub fn add_row(
     requires { (r < block_limit) × (place_of from offsets.now r < length d.old) }
     ensures { d.new ≡ put (added_to f (slice_index sums.now r)) (place_of from offsets.now r) d.old }
 {
-    let place = std::num::wrapping_add_u64(from, offsets[r]) as usize;
+    let place = from.wrapping_add(offsets[r]) as usize;
     d[place] = added(f, sums[r], d[place]);
 }
 
@@ -57,11 +58,31 @@ pub fn add_by_step(
     ensures { d.new ≡ all_added n (added_to f) sums.now r (stepped at step) d.old }
 {
     let mut at = at;
-    let mut k: usize = 0;
-    while k < n {
+    for k in 0..n {
         let place = at as usize;
         d[place] = added(f, sums[r + k], d[place]);
-        at = std::num::wrapping_add_u64(at, step);
-        k += 1;
+        at = at.wrapping_add(step);
+    }
+}
+
+// The sums from place r on, added to n words of D one after the other from `at` on: `change` makes the new word of a sum and the old one.
+pub fn add_each<F: Fn(u32, u32) -> u32>(
+    d: &mut [u32],
+    at: usize,
+    n: usize,
+    sums: &[u32; Limits::BLOCK],
+    r: usize,
+    change: F,
+)
+    requires callable { F.IsAlwaysCallable change }
+    requires inside { (at + n ≤ length d.old) × (r + n ≤ block_limit) }
+    ensures { (made : ℕ → ℕ → ℕ)
+        → Makes (F.post change) made
+        → d.new ≡ all_added n made sums.now r (λ k. at + k) d.old }
+{
+    for k in 0..n {
+        let sum = sums[r + k];
+        let old = d[at + k];
+        d[at + k] = change(sum, old);
     }
 }

@@ -7,7 +7,9 @@ use native.Mathlib.Nat.{mul-le-mul_left}
 use native.Mathlib.Omega.{arith}
 use Rattle.words.specs.Words.{word, word_of}
 use Rattle.contraction.specs.declared.contraction.Contraction.{Contraction}
-use Rattle.contraction.specs.Operands.{Operand, C, D, tensors}
+use Rattle.contraction.specs.Operands.{tensors}
+use Rattle.contraction.specs.declared.contraction.Operand.{Operand}
+use Rattle.contraction.specs.declared.contraction.Operand.TheVariants.{C, D}
 use Rattle.questions.proofs.Ready.{AllPassed, accepted_parts}
 use Rattle.groups.specs.Groups.{Label, depth, group, outputs, size}
 use Rattle.offsets.specs.Counts.{offset_in}

@@ -4,7 +4,9 @@ use Rattle.std.specs.Prelude.{ℕ, ◌+◌, ◌*◌, ◌<◌, ◌≡◌, List, �
 use Rattle.words.specs.Words.{word, word_of}
 use Rattle.layout.specs.Layout.{address}
 use Rattle.contraction.specs.declared.contraction.Contraction.{Contraction}
-use Rattle.contraction.specs.Operands.{Operand, C, D, tensors}
+use Rattle.contraction.specs.Operands.{tensors}
+use Rattle.contraction.specs.declared.contraction.Operand.{Operand}
+use Rattle.contraction.specs.declared.contraction.Operand.TheVariants.{C, D}
 use Rattle.groups.specs.Groups.{Label, depth, group, outputs, size}
 use Rattle.odometer.specs.Carried.{carried}
 use Rattle.folding.specs.Fold.{fold}

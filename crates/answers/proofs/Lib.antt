@@ -1,1 +1,2 @@
 pub mod StatusCases
+pub mod Statuses

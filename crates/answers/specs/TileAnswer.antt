@@ -1,7 +1,9 @@
 -- What a tile call answers, and every lent word afterwards.
 -- Assumes nothing.
-use Rattle.std.specs.Prelude.{ℕ, Bool, List}
-use Rattle.answers.specs.declared.tile_answer.Outcome.{Outcome}
+use Rattle.std.specs.Prelude.{ℕ, Bool, List, Result, Ok, Err}
+use Rattle.refusals.specs.declared.refusal.Refusal.{Refusal}
+use Rattle.refusals.specs.Numbers.{number as number_of}
+use Rattle.answers.specs.declared.tile_answer.Ran.{Ran}
 
 -- the new count of tiles done and whether that is the total; or the number of the question that refused, and the count as given
 pub data TileAnswer : Type 0 where
@@ -13,10 +15,10 @@ abbrev pub done_in : TileAnswer → ℕ
 done_in (ran done complete) = done
 done_in (tile_refused number done) = done
 
--- the answer that the code's enum gives
-abbrev pub tile_answer : Outcome → TileAnswer
-tile_answer (Outcome.Ran done complete) = ran done complete
-tile_answer (Outcome.Refused number done) = tile_refused number done
+-- the answer that the code's result gives, of a call with a count of tiles done
+abbrev pub tile_answer : ℕ → Result Ran Refusal → TileAnswer
+tile_answer given (Ok x) = ran x.done x.complete
+tile_answer given (Err e) = tile_refused (number_of e) given
 
 -- the answer of a tile call, D's words and the work slice afterwards
 pub record TileCall : Type 0 where

@@ -1,40 +1,32 @@
 ghost use Rattle.std.specs.Prelude.{◌≡◌};
 ghost use Rattle.answers.specs.DelayAnswer.{delay_answer};
-ghost use Rattle.answers.specs.FlatDelay.{delay_status, lag_after, score_after};
+ghost use Rattle.answers.specs.FlatDelay.{lag_after, score_after};
 
-// What a delay call answers: a lag and its score, or the number of the question that refused.
+use refusals::refusal::Refusal;
+
+// What a delay call answers: a lag and its score.
 #[derive(Clone, Copy)]
-pub enum Delay {
-    Found { lag: u64, score: i64 },
-    Refused(u32),
+pub struct Found {
+    pub lag: u64,
+    pub score: i64,
 }
 
-// An answer as a number: 0 where a lag was found.
-pub fn status_of(delay: Delay) -> u32
-    ensures { result ≡ delay_status (delay_answer delay) }
-{
-    match delay {
-        Delay::Found { lag: _, score: _ } => 0,
-        Delay::Refused(n) => n,
-    }
-}
-
-// The lag; as it was where the call was refused.
-pub fn lag_after(delay: Delay, before: u64) -> u64
+// The lag; as it was where the call was refused. It, the score and the tiles done are read one by one, since C has a place for each.
+pub fn lag_after(delay: Result<Found, Refusal>, before: u64) -> u64
     ensures { result ≡ lag_after (delay_answer delay) before }
 {
     match delay {
-        Delay::Found { lag, score: _ } => lag,
-        Delay::Refused(_) => before,
+        Ok(found) => found.lag,
+        Err(_) => before,
     }
 }
 
 // Its score; as it was where the call was refused.
-pub fn score_after(delay: Delay, before: i64) -> i64
+pub fn score_after(delay: Result<Found, Refusal>, before: i64) -> i64
     ensures { result ≡ score_after (delay_answer delay) before }
 {
     match delay {
-        Delay::Found { lag: _, score } => score,
-        Delay::Refused(_) => before,
+        Ok(found) => found.score,
+        Err(_) => before,
     }
 }

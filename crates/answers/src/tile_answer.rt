@@ -1,43 +1,32 @@
-ghost use Rattle.std.specs.Prelude.{◌≡◌};
+ghost use Rattle.std.specs.Prelude.{◌≡◌, ℕ};
 ghost use Rattle.answers.specs.TileAnswer.{tile_answer, done_in};
-ghost use Rattle.answers.specs.FlatTiles.{tile_status, said_complete};
+ghost use Rattle.answers.specs.FlatTiles.{said_complete};
 
-// What a tile call answers: the new count of tiles done and whether that is the total, or the number of the question that refused and the count as given.
+use refusals::refusal::Refusal;
+
+// What a tile call that ran answers: the new count of tiles done and whether that is the total. Both mean something in each answer.
 #[derive(Clone, Copy)]
-pub enum Outcome {
-    Ran { done: u64, complete: bool },
-    Refused { number: u32, done: u64 },
+pub struct Ran {
+    pub done: u64,
+    pub complete: bool,
 }
 
-// An outcome as a number: 0 where the call ran.
-pub fn status_of(outcome: Outcome) -> u32
-    ensures { result ≡ tile_status (tile_answer outcome) }
+// The tiles done after the call; as many as were given where it was refused.
+pub fn done_of(outcome: Result<Ran, Refusal>, given: u64) -> u64
+    ensures { result ≡ done_in (tile_answer given outcome) }
 {
     match outcome {
-        Outcome::Ran {
-            done: _,
-            complete: _,
-        } => 0,
-        Outcome::Refused { number, done: _ } => number,
-    }
-}
-
-// The tiles done after the call.
-pub fn done_of(outcome: Outcome) -> u64
-    ensures { result ≡ done_in (tile_answer outcome) }
-{
-    match outcome {
-        Outcome::Ran { done, complete: _ } => done,
-        Outcome::Refused { number: _, done } => done,
+        Ok(ran) => ran.done,
+        Err(_) => given,
     }
 }
 
 // 1 where all tiles are done, 0 where not, or where the call was refused.
-pub fn complete_of(outcome: Outcome) -> u32
-    ensures { result ≡ said_complete (tile_answer outcome) }
+pub fn complete_of(outcome: Result<Ran, Refusal>) -> u32
+    ensures { (given : ℕ) → result ≡ said_complete (tile_answer given outcome) }
 {
     match outcome {
-        Outcome::Ran { done: _, complete } => { if complete { 1 } else { 0 } }
-        Outcome::Refused { number: _, done: _ } => 0,
+        Ok(ran) => u32::from(ran.complete),
+        Err(_) => 0,
     }
 }

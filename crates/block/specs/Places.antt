@@ -1,18 +1,17 @@
 -- The code's blocks of offsets, and the places that they address. Inside contracts only.
 -- Assumes nothing.
-use Rattle.std.specs.Prelude.{◌≡◌, ℕ, ◌+◌, ◌<◌, ◌≤◌, min, cond, List, nat_lt, slice_index}
+use Rattle.std.specs.Prelude.{◌≡◌, ℕ, ◌+◌, ◌<◌, ◌≤◌, min, cond, Option, Some, None, List, nat_lt, slice_index}
 use Rattle.words.specs.Words.{word}
 use Rattle.words.specs.Loops.{Within}
 use Rattle.limits.specs.Limits.{block_limit}
 use Rattle.block.specs.Block.{Step, even, scattered, step_from, block_step}
 use Rattle.block.specs.Stretches.{longest_from}
-use Rattle.block.specs.declared.block.Step.{Step as StepCode}
 use Rattle.block.specs.declared.block.Block.{Block}
 
--- the step that the code's enum gives
-abbrev pub as_step : StepCode → Step
-as_step (StepCode.Even s) = even s
-as_step StepCode.Scattered = scattered
+-- the step that the code's option gives
+abbrev pub as_step : Option ℕ → Step
+as_step (Some s) = even s
+as_step None = scattered
 
 -- at each place the length of the longest even stretch from there on
 pub record Measured (count : ℕ) (offsets lengths : List ℕ) : Type 0 where

@@ -6,12 +6,8 @@ ghost use Rattle.block.specs.Places.{as_step, Measured, StepOf, BlockOf};
 
 use limits::limits::Limits;
 
-// The step of a block of offsets: each is the one before plus the step, or they are scattered.
-#[derive(Clone, Copy)]
-pub enum Step {
-    Even(u64),
-    Scattered,
-}
+// The step of a block of offsets, each of which is the one before plus the step; scattered ones have none.
+pub type Step = Option<u64>;
 
 // The offsets of a block of rows or columns, as address words, beside their count and step; `lengths` has, for each place, how many offsets from there on
 // form the longest even stretch.
@@ -23,31 +19,14 @@ pub struct Block {
     pub step: Step,
 }
 
-fn clipped(count: usize) -> usize
-    ensures { result ≡ min count block_limit }
-{
-    if count < Limits::BLOCK {
-        count
-    } else {
-        Limits::BLOCK
-    }
-}
-
-// A length as a count of places.
-pub fn wide(x: u8) -> usize
-    ensures { result ≡ x }
-{
-    x as usize
-}
-
 // The step from x to y.
 fn step_from(x: u64, y: u64) -> u64
     ensures { StepOf x y result }
 {
-    std::num::wrapping_sub_u64(y, x)
+    y.wrapping_sub(x)
 }
 
-// The step from place i to the next; the last place of an array has none.
+// The step from place i to the next; the last place of an array has none. It isn't `offsets.get(i + 1)`, since nothing bounds i here, and i + 1 could overflow.
 pub fn step_at(offsets: &[u64; Limits::BLOCK], i: usize) -> u64
     ensures { i + 1 < block_limit → StepOf (slice_index offsets.now i) (slice_index offsets.now (i + 1)) result }
 {
@@ -75,13 +54,11 @@ fn lengths_of(offsets: &[u64; Limits::BLOCK], n: usize) -> [u8; Limits::BLOCK]
     if n == 0 {
         return lengths;
     }
-    let mut i = n - 1;
-    let mut next = offsets[i];
+    let mut next = offsets[n - 1];
     let mut len: u8 = 1;
     let mut after: u64 = 0;
-    lengths[i] = len;
-    while i > 0 {
-        i -= 1;
+    lengths[n - 1] = len;
+    for i in (0..n - 1).rev() {
         let at = offsets[i];
         let step = step_from(at, next);
         len = longer(len, step, after);
@@ -98,13 +75,13 @@ fn step_of(offsets: &[u64; Limits::BLOCK], n: usize, len: usize) -> Step
     ensures { as_step result ≡ block_step n offsets.now }
 {
     if n < 2 {
-        return Step::Even(0);
+        return Some(0);
     }
     let s = step_at(offsets, 0);
     if len < n {
-        return Step::Scattered;
+        return None;
     }
-    Step::Even(s)
+    Some(s)
 }
 
 impl Block {
@@ -112,9 +89,9 @@ impl Block {
     pub fn of(offsets: [u64; Limits::BLOCK], count: usize) -> Block
         ensures { BlockOf count offsets result }
     {
-        let n = clipped(count);
+        let n = count.min(Limits::BLOCK);
         let lengths = lengths_of(&offsets, n);
-        let step = step_of(&offsets, n, wide(lengths[0]));
+        let step = step_of(&offsets, n, usize::from(lengths[0]));
         Block {
             offsets,
             lengths,

@@ -1,2 +1,3 @@
 pub mod ColumnNeeds
+pub mod LineStores
 pub mod Stored

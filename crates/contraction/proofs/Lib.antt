@@ -1,4 +1,5 @@
 pub mod Again
+pub mod ListOfC
 pub mod OrderCases
 pub mod TensorPlaces
 pub mod Together

@@ -5,7 +5,8 @@ use mathlib.Core.List.{List}
 use Prim.Native.Nat.{ℕ, zero, suc, ◌<◌}
 use native.Mathlib.Omega.{arith}
 use lib.ListN.{get_or}
-use Rattle.contraction.specs.Operands.{Operand, A, B, C, D}
+use Rattle.contraction.specs.declared.contraction.Operand.{Operand}
+use Rattle.contraction.specs.declared.contraction.Operand.TheVariants.{A, B, C, D}
 use Rattle.contraction.specs.TensorPlaces.{tensor_count, operand_number, operand_at, by_tensor}
 
 pub number_below : (o : Operand) → operand_number o < tensor_count

@@ -6,7 +6,9 @@ use lib.Dec.{T}
 use Rattle.words.specs.Sums.{every}
 use Rattle.words.proofs.Sums.{every_append}
 use Rattle.layout.specs.declared.layout.Axis.{Axis}
-use Rattle.contraction.specs.Operands.{Operand, A, B, C, D, Shape, together}
+use Rattle.contraction.specs.Operands.{Shape, together}
+use Rattle.contraction.specs.declared.contraction.Operand.{Operand}
+use Rattle.contraction.specs.declared.contraction.Operand.TheVariants.{A, B, C, D}
 
 -- a test that passes at every axis of each tensor passes at every axis of all together
 pub every_together : (p : Axis → Bool) (s : Shape) → ((o : Operand) → T (every p (s o))) → T (every p (together s))

@@ -1,15 +1,13 @@
 -- The tensors of a contraction. Another one is one more case here.
 -- Assumes nothing.
-use Rattle.std.specs.Prelude.{ℕ, Bool, true, false, cond, List, [], ◌∷◌, ◌++◌}
+use Rattle.std.specs.Prelude.{ℕ, Bool, true, false, cond, List, [], ◌∷◌, ◌++◌, Some, None, is_some, unwrap_or}
 use Rattle.layout.specs.declared.layout.Axis.{Axis}
 use Rattle.layout.specs.declared.layout.Layout.{Layout}
 use Rattle.layout.specs.Layout.{axes}
 use Rattle.contraction.specs.declared.contraction.Contraction.{Contraction}
+use Rattle.contraction.specs.declared.contraction.Operand.{Operand}
+use Rattle.contraction.specs.declared.contraction.Operand.TheVariants.{A, B, C, D}
 use Rattle.contraction.specs.declared.contraction.Lengths.{Lengths}
-
--- A, B and C are read, D is read and written
-pub data Operand : Type 0 where
-  A B C D : Operand
 
 abbrev pub operands : List Operand
 operands = A ∷ B ∷ C ∷ D ∷ []
@@ -25,9 +23,13 @@ four a b c d D = d
 abbrev pub three : {X : Type 0} → X → X → X → Operand → X
 three a b d = four a b d d
 
--- the contraction of these layouts and factors, with C where it is named; without C; with C
+-- is C one of its tensors
+abbrev pub named : Contraction → Bool
+named k = is_some k.c
+
+-- the contraction of these layouts and factors, with C or, where it is not named, with no layout of C; without C; with C
 abbrev pub contraction_if : Bool → Layout → Layout → Layout → Layout → ℕ → ℕ → Contraction
-contraction_if named a b c d alpha beta = record { a = a; b = b; c = c; d = d; named = named; alpha = alpha; beta = beta }
+contraction_if with_c a b c d alpha beta = record { a = a; b = b; c = cond with_c (Some c) None; d = d; alpha = alpha; beta = beta }
 
 abbrev pub contraction_of : Layout → Layout → Layout → ℕ → ℕ → Contraction
 contraction_of a b d = contraction_if false a b d d
@@ -37,10 +39,10 @@ contraction_with_c = contraction_if true
 
 -- one thing for each tensor of a contraction; where it names no C, D stands for it
 abbrev pub of_tensors : {X : Type 0} → Contraction → X → X → X → X → Operand → X
-of_tensors k a b c d = four a b (cond k.named c d) d
+of_tensors k a b c d = four a b (cond (named k) c d) d
 
 abbrev pub tensors : Contraction → Operand → Layout
-tensors k = of_tensors k k.a k.b k.c k.d
+tensors k = four k.a k.b (unwrap_or k.c k.d) k.d
 
 -- how many words each tensor's slice has
 abbrev pub lengths : Contraction → Lengths → Operand → ℕ

@@ -1,6 +1,6 @@
 -- The code's lists of the axes of the tensors, each and together, once questions 1 to 5 passed. Inside contracts only.
 -- Assumes nothing.
-use Rattle.std.specs.Prelude.{◌≡◌, false}
+use Rattle.std.specs.Prelude.{◌≡◌, unwrap_or}
 use Rattle.layout.specs.declared.layout.Layout.{Layout}
 use Rattle.layout.specs.declared.axes.Axes.{Axes}
 use Rattle.layout.specs.Listed.{listed}
@@ -10,12 +10,13 @@ use Rattle.labels.specs.Labels.{labels}
 use Rattle.labels.specs.LetterSets.{Spells}
 use Rattle.labels.specs.Lettered.{Lettered}
 use Rattle.contraction.specs.declared.operands.Operands.{Operands}
-use Rattle.contraction.specs.Operands.{Operand, four, Shape, tensors, together}
+use Rattle.contraction.specs.Operands.{four, Shape, tensors, together}
+use Rattle.contraction.specs.declared.contraction.Operand.{Operand}
 use Rattle.contraction.specs.declared.contraction.Contraction.{Contraction}
 
--- the code's list of axes, beside its letters, for each tensor
+-- the code's list of axes, beside its letters, for each tensor; where C is not named, D's stands for it
 abbrev pub labelled_in : Operands → Operand → Labelled
-labelled_in x = four x.a x.b x.c x.d
+labelled_in x = four x.a x.b (unwrap_or x.c x.d) x.d
 
 abbrev pub axes_in : Operands → Operand → Axes
 axes_in x o = (labelled_in x o).axes
@@ -37,10 +38,9 @@ pub record ListedFrom (c : Contraction) (x : Operand → Labelled) : Type 0 wher
 pub record AllLettered (x : Operand → Labelled) : Type 0 where
   pub each : (o : Operand) → Lettered (x o)
 
--- and the letters of all are there; where C is not named, its axes are D's
+-- and the letters of all are there
 pub record Gathered (x : Operands) : Type 0 where
   pub each : (o : Operand) → Lettered (labelled_in x o)
-  pub stands : x.named ≡ false → x.c ≡ x.d
   pub all : Spells x.letters (labels (together (shape_of x)))
 
 -- the code's record of these lists

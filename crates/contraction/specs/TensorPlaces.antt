@@ -1,7 +1,9 @@
 -- A tensor's place in arrays by tensor. Inside contracts only.
 -- Assumes nothing.
 use Rattle.std.specs.Prelude.{ℕ, List, get_or}
-use Rattle.contraction.specs.Operands.{Operand, A, B, C, D, operands}
+use Rattle.contraction.specs.Operands.{operands}
+use Rattle.contraction.specs.declared.contraction.Operand.{Operand}
+use Rattle.contraction.specs.declared.contraction.Operand.TheVariants.{A, B, C, D}
 
 -- how many tensors there are
 abbrev pub tensor_count : ℕ

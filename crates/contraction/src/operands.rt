@@ -1,4 +1,4 @@
-ghost use Rattle.std.specs.Prelude.{◌≡◌, false, cond, List, ◌++◌, ◌+◌, ◌≤◌};
+ghost use Rattle.std.specs.Prelude.{◌≡◌, unwrap_or, IfSome, MatchOption, List, ◌++◌, ◌+◌, ◌≤◌};
 ghost use Rattle.limits.specs.Limits.{rank_limit, letters_limit};
 ghost use Rattle.layout.specs.declared.layout.Axis.{Axis};
 ghost use Rattle.layout.specs.Listed.{listed};
@@ -10,35 +10,36 @@ ghost use Rattle.contraction.specs.TensorAxes.{shape_of, Gathered, AllLettered, 
 
 use labels::labels::{extent_of, extent_or};
 use labels::letter_sets::{Labelled, Letters};
-use layout::axes::Axes;
 
-// The axes of each tensor beside their letters, and the different letters of all: D's, then A's, B's and C's. Where C is not named, its axes are D's.
+// The axes of each tensor beside their letters, and the different letters of all: D's, then A's, B's and C's.
 #[derive(Clone, Copy)]
 pub struct Operands {
     pub a: Labelled,
     pub b: Labelled,
-    pub c: Labelled,
+    pub c: Option<Labelled>,
     pub d: Labelled,
     pub letters: Letters,
-    pub named: bool,
 }
 
-// Letters with those of C's axes behind them. Where C is not named, they are there already.
-fn letters_with_c(letters: Letters, named: bool, axes: Axes) -> Letters
-    requires { Spells letters (spelled letters) × Checked axes × (letters.count + rank_limit ≤ letters_limit) }
-    ensures { (xs : List Axis) → Spells letters (labels xs) → (named ≡ false → labels (xs ++ listed axes) ≡ labels xs)
-        → Spells result (labels (xs ++ listed axes)) }
+// Letters with those of C's axes behind them. Where C is not named, D stands for it, whose letters are there already.
+fn letters_with_c(letters: Letters, c: Option<Labelled>) -> Letters
+    requires { Spells letters (spelled letters)
+        × IfSome c (λ l. Checked l.axes)
+        × (letters.count + rank_limit ≤ letters_limit) }
+    ensures { MatchOption c
+        (result ≡ letters)
+        (λ l. (xs : List Axis) → Spells letters (labels xs) → Spells result (labels (xs ++ listed l.axes))) }
 {
-    if !named {
-        return letters;
+    match c {
+        Some(c) => letters.with_axes(c.axes),
+        None => letters,
     }
-    letters.with_axes(axes)
 }
 
 impl Operands {
-    pub fn of(a: Labelled, b: Labelled, c: Labelled, d: Labelled, named: bool) -> Operands
-        requires { AllLettered (four a b c d) × (named ≡ false → c ≡ d) }
-        ensures { Held (four a b c d) result }
+    pub fn of(a: Labelled, b: Labelled, c: Option<Labelled>, d: Labelled) -> Operands
+        requires { AllLettered (four a b (unwrap_or c d) d) }
+        ensures { Held (four a b (unwrap_or c d) d) result }
     {
         let letters = d.letters.with_axes(a.axes).with_axes(b.axes);
         Operands {
@@ -46,20 +47,19 @@ impl Operands {
             b,
             c,
             d,
-            letters: letters_with_c(letters, named, c.axes),
-            named,
+            letters: letters_with_c(letters, c),
         }
     }
 
     // The extent of a letter where it first occurs in C, 1 where it is absent or C is not named.
     fn extent_in_c(self, c: u32) -> u32
         requires { Gathered self }
-        ensures { result ≡ cond self.named (extent_of c (listed self.c.axes)) 1 }
+        ensures { MatchOption self.c (result ≡ 1) (λ l. result ≡ extent_of c (listed l.axes)) }
     {
-        if !self.named {
-            return 1;
+        match self.c {
+            Some(l) => extent_of(l.axes, c),
+            None => 1,
         }
-        extent_of(self.c.axes, c)
     }
 
     // The extent of a label: that of its letter where it first occurs.

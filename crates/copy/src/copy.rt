@@ -25,12 +25,10 @@ fn copy_column(
         ≡ overwrite count (place_of to down.now) (λ r. slice_index c.now (place_of from rows.now r))
         d.old }
 {
-    let mut r: usize = 0;
-    while r < count {
-        let source = std::num::wrapping_add_u64(from, rows[r]);
-        let place = std::num::wrapping_add_u64(to, down[r]);
+    for r in 0..count {
+        let source = from.wrapping_add(rows[r]);
+        let place = to.wrapping_add(down[r]);
         d[place as usize] = c[source as usize];
-        r += 1;
     }
 }
 
@@ -49,10 +47,9 @@ pub fn copy_tile(
     ensures { d.new
         ≡ each across.count (column_copied c.now from rows cols to down across) d.old }
 {
-    let mut b: usize = 0;
-    while b < across.count {
-        let source = std::num::wrapping_add_u64(from, cols.offsets[b]);
-        let place = std::num::wrapping_add_u64(to, across.offsets[b]);
+    for b in 0..across.count {
+        let source = from.wrapping_add(cols.offsets[b]);
+        let place = to.wrapping_add(across.offsets[b]);
         copy_column(
             c,
             source,
@@ -62,6 +59,5 @@ pub fn copy_tile(
             &down.offsets,
             down.count,
         );
-        b += 1;
     }
 }

@@ -1,4 +1,4 @@
--- Laws for the functions that decode a job: the words and the layout of a part of the file.
+-- Laws for the functions that decode a job: the words and the layout of a part of the file, and the layout of C where a job has it.
 -- Assumes nothing.
 use mathlib.Core.Path.{◌≡◌, sym, ap, ◌∙◌}
 use mathlib.Core.Logic.{⊎_elim}
@@ -7,14 +7,17 @@ use Prim.Native.Nat.{ℕ, ◌+◌, ◌-◌, ◌*◌, ◌≤◌}
 use native.Mathlib.Omega.{arith}
 use lib.IntN.{ℤ}
 use lib.ListN.{length, take, drop, replicate, length-take}
+use Rattle.std.specs.Prelude.{Option, None, Some, is_some, unwrap_or, IsSomeAnd, MatchOption}
 use Rattle.words.specs.Words.{signed}
 use Rattle.words.proofs.Lent.{CameBack}
 use Rattle.layout.specs.declared.layout.Layout.{Layout}
 use Rattle.layout.specs.Layout.{layout_of}
+use Rattle.contraction.specs.Operands.{contraction_if}
 use Rattle.little_endian.specs.Bytes.{little, numbers}
 use Rattle.little_endian.proofs.Little.{length_numbers, numbers_bytes}
 use Rattle.records.specs.declared.records.LayoutPart.{LayoutPart}
 use Rattle.records.specs.declared.records.WordsPart.{WordsPart}
+use Rattle.records.specs.declared.records.TensorParts.{TensorParts}
 use Rattle.records.specs.Records.{layout_at}
 use Rattle.records.specs.RecordParts.{layout_in, words_of, LayoutHeld, WordsHeld}
 use Rattle.decode.specs.AtFront.{AtFront}
@@ -49,3 +52,11 @@ unfolding layout_at
 layout_made file p held x e y s b made =
     let n : (p.at + p.rank) - p.at ≡ p.rank = omega arith in
     rw (made, x.front, e, x.lent, y.front, s, y.lent, b, n, numbers_bytes file p.rank p.at (omega (arith, held.inside)))
+
+-- the contraction with the layout of C where a job has it: without it, nothing is read of what stands for C
+pub with_its_c : (file : List ℕ) (c : Option TensorParts) (stand : TensorParts) (a b d : Layout) (alpha beta : ℕ) (m : Option Layout)
+    (P : TensorParts → Layout → Type 0) → ((x : TensorParts) (l : Layout) → P x l → l ≡ layout_in file x.layout) → MatchOption c (m ≡ None) (λ x. IsSomeAnd m (P x))
+    → contraction_if (is_some m) a b (unwrap_or m d) d alpha beta ≡ contraction_if (is_some c) a b (layout_in file (unwrap_or c stand).layout) d alpha beta
+with_its_c file None stand a b d alpha beta m P f e = rw e
+with_its_c file (Some x) stand a b d alpha beta (Some l) P f e = rw (f x l e)
+with_its_c file (Some x) stand a b d alpha beta None P f e = absurd e

@@ -16,18 +16,22 @@ pub fn layout_in(file: &[u8], part: LayoutPart) -> Layout
     requires { LayoutHeld file.now part }
     ensures { result ≡ layout_in file.now part }
 {
-    let at = part.at;
-    let rank = part.rank;
-    let letters = at + rank;
+    let LayoutPart { at, rank } = part;
     let mut extents = [0u32; Limits::RANK];
     let mut strides = [0i32; Limits::RANK];
     read_words(file, at + rank, &mut extents[..rank]);
     read_signed(file, at + 5 * rank, &mut strides[..rank]);
     let base = four_bytes(file, at + 9 * rank);
-    Layout::new(&file[at..letters], &extents[..rank], &strides[..rank], base)
+    Layout::new(
+        &file[at..at + rank],
+        &extents[..rank],
+        &strides[..rank],
+        base,
+    )
 }
 
-// The words that stand at a part of the file, into a slice for as many.
+// The words that stand at a part of the file, into a slice for as many. A test and no closure: the width is known only once the file is read, and a closure
+// would only move this test to the caller.
 fn words_in(file: &[u8], part: WordsPart, out: &mut [u32])
     requires { WordsHeld file.now part × (length out.old ≡ part.count) }
     ensures { out.new ≡ words_of file.now part }
@@ -39,14 +43,13 @@ fn words_in(file: &[u8], part: WordsPart, out: &mut [u32])
     }
 }
 
-// The words that stand at a part of the file, at the front of an array that holds any tensor's.
+// The words that stand at a part of the file, at the front of an array that holds any tensor's. Stays an array, its length in the part: no heap.
 pub fn job_words(file: &[u8], part: WordsPart) -> [u32; Limits::JOB]
     requires { WordsHeld file.now part }
     ensures { AtFront file.now part result }
 {
-    let count = part.count;
     let mut words = [0u32; Limits::JOB];
-    words_in(file, part, &mut words[..count]);
+    words_in(file, part, &mut words[..part.count]);
     words
 }
 
@@ -58,9 +61,8 @@ pub fn contraction_in(file: &[u8], job: JobParts) -> Contraction
     Contraction::of(
         layout_in(file, job.a.layout),
         layout_in(file, job.b.layout),
-        layout_in(file, job.c.layout),
+        job.c.map(|c| layout_in(file, c.layout)),
         layout_in(file, job.d.layout),
-        job.named,
         job.go.alpha,
         job.go.beta,
     )

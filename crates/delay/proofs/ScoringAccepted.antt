@@ -21,7 +21,9 @@ use Rattle.validity.specs.TensorQuestions.{rank_fits, counts_match, letters_vali
 use Rattle.points.specs.LabelQuestions.{extents_agree, letters_same, points, points_fit}
 use Rattle.entries.specs.EntryQuestions.{has_entries, span, inside, below, strides_apart, apart}
 use Rattle.entries.specs.Bounds.{InRange}
-use Rattle.contraction.specs.Operands.{Operand, A, B, C, D, four, three, tensors, together}
+use Rattle.contraction.specs.Operands.{four, three, tensors, together}
+use Rattle.contraction.specs.declared.contraction.Operand.{Operand}
+use Rattle.contraction.specs.declared.contraction.Operand.TheVariants.{A, B, C, D}
 use Rattle.tensor_answers.specs.OwnQuestions.{tensor_questions}
 use Rattle.questions.specs.Questions.{label_questions, entry_questions, layout_questions}
 use Rattle.groups.specs.Groups.{group_of, in_group, group}
@@ -145,4 +147,4 @@ module _ (lags used : ℕ) (xs ys d : List ℕ) (q : Sized lags used xs ys d) wh
         ∙ value_sum
 
   pub call_is_done : (plain_call (scoring lags used) (three xs ys d)).answer ≡ plain_done
-  call_is_done = ap (λ (k : PlainCall). k.answer) (sym (call_done (scoring lags used) (three xs ys d) refl accepted))
+  call_is_done = ap (λ (k : PlainCall). k.answer) (sym (call_done (scoring lags used) (three xs ys d) accepted))

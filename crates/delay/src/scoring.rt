@@ -14,7 +14,7 @@ const LAG: u8 = 108;
 
 const SAMPLE: u8 = 116;
 
-// Word after word, with one label.
+// Word after word, with one label. Its letter is a byte, as in every layout that is handed in.
 fn one_label(letter: u8, extent: u32) -> Layout
     ensures { result ≡ one_label letter extent }
 {
@@ -46,6 +46,6 @@ pub fn scores(x: &[u32], y: &[u32], greatest: usize) -> [u32; Limits::LAGS]
     let k = scoring_of(greatest as u32 + 1, (x.len() - greatest) as u32);
     let mut d = [0u32; Limits::LAGS];
     // C is not named: what stands in its place is not read.
-    contract(k, x, y, x, &mut d);
+    let _ = contract(k, x, y, x, &mut d);
     d
 }

@@ -14,7 +14,9 @@ use Rattle.words.proofs.Sums.{sum_to_ext}
 use Rattle.words.proofs.Store.{puts_other}
 use Rattle.layout.specs.Layout.{address}
 use Rattle.contraction.specs.declared.contraction.Contraction.{Contraction}
-use Rattle.contraction.specs.Operands.{Operand, A, B, C, D, tensors}
+use Rattle.contraction.specs.Operands.{named, tensors}
+use Rattle.contraction.specs.declared.contraction.Operand.{Operand}
+use Rattle.contraction.specs.declared.contraction.Operand.TheVariants.{A, B, C, D}
 use Rattle.questions.proofs.Ready.{AllPassed}
 use Rattle.groups.specs.Groups.{Label, depth, group, outputs, size}
 use Rattle.folding.specs.Fold.{fold}
@@ -49,9 +51,9 @@ module _ (c : Contraction) (w : Slices) (p : AllPassed (tensors c) (lengths_in c
     word_start = rw (bases C) (reached_out (tensors c) (lengths_in c w) p m h C (c_in_d (shape_in c) p.same))
 
     -- where C is named, its word is in its slice
-    start_inside : c.named ≡ true → words m C < length (w C)
+    start_inside : named c ≡ true → words m C < length (w C)
     start_inside e =
-        rw (word_start) (subst (λ (named : Bool). address (tensors c C) (out_index (shape_in c) m) < cond named (length (w C)) (length (w D))) e
+        rw (word_start) (subst (λ (b : Bool). address (tensors c C) (out_index (shape_in c) m) < cond b (length (w C)) (length (w D))) e
         (out_inside (tensors c) (lengths_in c w) p m h C (c_in_d (shape_in c) p.same)).1)
 
     module _ (k : ℕ) (i : k < size (group (shape_in c) depth)) (o : Operand) where
@@ -78,12 +80,12 @@ module _ (c : Contraction) (w : Slices) (p : AllPassed (tensors c) (lengths_in c
     sum_is = rw (fold_size (group (shape_in c) depth)) (sum_to_ext (size (group (shape_in c) depth)) (λ k i. rw (read k i A, read k i B)))
 
     value_is : (old : ℕ) → old ≡ entry c w D (out_index (shape_in c) m)
-        → combined c.alpha c.beta (sum_from inner (w A) (w B) (words m)) (start_of c.named (get_or (w C) (words m C) 0) old)
+        → combined c.alpha c.beta (sum_from inner (w A) (w B) (words m)) (start_of (named c) (get_or (w C) (words m C) 0) old)
         ≡ value c w (out_index (shape_in c) m)
     unfolding entry
     value_is old e = rw (sum_is, word_start, e) (sym (value_counts c w (out_index (shape_in c) m)))
 
-  pub clear : Clear c.named (size outer) words inner (w A) (w B) (w C) (length (w D))
+  pub clear : Clear (named c) (size outer) words inner (w A) (w B) (w C) (length (w D))
   clear =
       record {
         reads = λ m h. reads m (rw (fold_size (outputs (shape_in c))) at h);
@@ -124,13 +126,13 @@ module _ (c : Contraction) (w : Slices) (p : AllPassed (tensors c) (lengths_in c
       other : (k : ℕ) → k < m → place k ≢ place m
       other k i e = let q : k ≡ m = places_apart k m (omega arith) h e in omega (arith, q)
 
-  fills : (m : ℕ) → m ≤ size (outputs (shape_in c)) → each m (λ m. filled c.named c.alpha c.beta inner (w A) (w B) (w C) (words m)) (w D) ≡ overwrite m place put_value (w D)
+  fills : (m : ℕ) → m ≤ size (outputs (shape_in c)) → each m (λ m. filled (named c) c.alpha c.beta inner (w A) (w B) (w C) (words m)) (w D) ≡ overwrite m place put_value (w D)
   unfolding each filled put place put_value
   fills zero h = refl
   fills (suc m) h =
       rw (fills m (omega arith), word_out m (omega arith))
       (ap (set (overwrite m place put_value (w D)) (place m)) (value_is m (omega arith) _ (unfilled m (omega arith))))
 
-  pub filled_result : each (size outer) (λ m. filled c.named c.alpha c.beta inner (w A) (w B) (w C) (words m)) (w D) ≡ result c w
+  pub filled_result : each (size outer) (λ m. filled (named c) c.alpha c.beta inner (w A) (w B) (w C) (words m)) (w D) ≡ result c w
   unfolding result place put_value
   filled_result = rw (fold_size (outputs (shape_in c))) (fills (size (outputs (shape_in c))) (omega arith))

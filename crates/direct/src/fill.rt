@@ -7,8 +7,10 @@ ghost use Rattle.next_runs.specs.NextRuns.{Fillable};
 
 use limits::limits::Limits;
 use next_runs::next_runs::{advance_by, fill_next, suits_four};
-use odometer::odometer::tabulate;
+use odometer::odometer::{Row, tabulate};
 use offsets::offsets::Offsets;
+use output_words::output::Sources;
+use sums::tabled::TabledWalk;
 use sums::walk::Walk;
 
 // Every word of D that an output count addresses, a run or four after the other: the address words are carried from each to the next.
@@ -30,21 +32,31 @@ pub fn fill(
         (λ m. filled named alpha beta (over depth) a.now b.now c.now (places base (over output) m))
         d.old }
 {
-    let step = output.step;
-    let mut rows = [0u64; 5 * Limits::LABELS];
-    let mut table = [0u64; 5 * Limits::LABELS];
-    let labels = tabulate(output.group, &mut rows);
-    let count = tabulate(depth.group, &mut table);
-    let fours = suits_four(step, output.len, depth.len, &rows, labels);
+    let x = Sources {
+        a,
+        b,
+        c,
+        named,
+        alpha,
+        beta,
+    };
+    let mut output_table = [Row::none(); Limits::LABELS];
+    let mut depth_table = [Row::none(); Limits::LABELS];
+    let rows = tabulate(output.group, &mut output_table);
+    let depth_rows = tabulate(depth.group, &mut depth_table);
+    let outputs = TabledWalk { walk: output, rows };
+    let depths = TabledWalk {
+        walk: depth,
+        rows: depth_rows,
+    };
+    let fours = suits_four(output.step, output.len, depth.len, rows);
     let mut digits = [0u64; Limits::LABELS];
     let mut at = base;
     let mut m: u32 = 0;
+    // Stays a while: a turn goes on by as many runs as it filled, one or four; a for has no such step.
     while m < output.runs {
-        let n = fill_next(
-            a, b, c, d, named, alpha, beta, base, output, depth, at, m, digits, &rows, labels,
-            &table, count, fours,
-        );
-        at = advance_by(at, &mut digits, &rows, labels, n);
+        let n = fill_next(&x, d, base, &outputs, &depths, at, m, digits, fours);
+        at = advance_by(at, &mut digits, rows, n);
         m += n;
     }
 }

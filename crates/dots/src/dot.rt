@@ -9,15 +9,14 @@ fn row_sum(a: &[u32], b: &[u32], i: usize, j: usize, len: usize) -> u32
     ensures { result ≡ word 32 (dot len (λ k. i + k) a.now (λ k. j + k) b.now) }
 {
     let mut sum: u32 = 0;
-    let mut v: usize = 0;
-    while v < len {
-        sum = std::num::wrapping_add_u32(sum, words::mul(a[i + v], b[j + v]));
-        v += 1;
+    for v in 0..len {
+        sum = sum.wrapping_add(words::mul(a[i + v], b[j + v]));
     }
     sum
 }
 
 // The same where each place is a step from the one before.
+// Stays a twin of row_sum: variable steps keep the compiler from a vector loop, and the contract of closures for the places would be longer than this.
 fn stepped_sum(
     a: &[u32],
     b: &[u32],
@@ -33,12 +32,10 @@ fn stepped_sum(
     let mut i = from_a;
     let mut j = from_b;
     let mut sum: u32 = 0;
-    let mut v: u32 = 0;
-    while v < len {
-        sum = std::num::wrapping_add_u32(sum, words::mul(a[i as usize], b[j as usize]));
-        i = std::num::wrapping_add_u64(i, step_a);
-        j = std::num::wrapping_add_u64(j, step_b);
-        v += 1;
+    for _v in 0..len {
+        sum = sum.wrapping_add(words::mul(a[i as usize], b[j as usize]));
+        i = i.wrapping_add(step_a);
+        j = j.wrapping_add(step_b);
     }
     sum
 }

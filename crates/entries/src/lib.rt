@@ -1,5 +1,4 @@
-// Where a tensor's entries lie, if it has any: inside their slice, and apart from each other. Questions 8 and 9.
+// Has a tensor entries, and do they lie inside their slice? Question 8. The definitions of question 9 stand here too; the crate `apart` has its code.
 #![tactic(auto)]
 
-pub mod apart;
 pub mod inside;

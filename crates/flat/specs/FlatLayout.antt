@@ -1,9 +1,10 @@
 -- A layout as the calls for C and Rust take it, in 28 words: 0 to 7 are the letters, 8 to 15 the extents, 16 to 23 the strides in two's complement,
 -- 24, 25 and 26 how many letters, extents and strides there are, and 27 is the base.
 -- Assumes nothing.
-use Rattle.std.specs.Prelude.{ℕ, ◌+◌, cond, List, map, leb, get_or}
+use Rattle.std.specs.Prelude.{ℕ, ◌+◌, cond, List, map, leb, get_or, pos}
 use Rattle.words.specs.Lists.{tabulate}
 use Rattle.words.specs.Words.{signed}
+use Rattle.layout.specs.declared.layout.Axis.{Axis}
 use Rattle.layout.specs.declared.layout.Layout.{Layout}
 use Rattle.layout.specs.Layout.{layout_of}
 use Rattle.contraction.specs.declared.contraction.Contraction.{Contraction}
@@ -16,6 +17,15 @@ counted words from count = tabulate (get_or words count 0) (λ i. get_or words (
 -- a letter's word: one above 255 is read as letter 0, which question 3 refuses
 abbrev pub letter_in : ℕ → ℕ
 letter_in x = cond (leb x 255) x 0
+
+-- axis i as the words say it; what is missing is 0
+abbrev pub axis_at : List ℕ → ℕ → Axis
+axis_at words i =
+    record {
+      letter = get_or (map letter_in (counted words 0 24)) i 0;
+      extent = get_or (counted words 8 25) i 0;
+      stride = get_or (map (signed 32) (counted words 16 26)) i (pos 0);
+    }
 
 -- the layout that 28 words say; of a ninth letter, extent or stride only the count is kept
 unfoldable pub flat_layout : List ℕ → Layout

@@ -1,7 +1,7 @@
 ghost use Rattle.std.specs.Prelude.{◌≡◌, map, ◌<◌, ◌+◌, get_or};
 ghost use Rattle.words.specs.Words.{signed};
 ghost use Rattle.layout.specs.Layout.{axes_of};
-ghost use Rattle.flat.specs.FlatLayout.{letter_in, counted, flat_layout};
+ghost use Rattle.flat.specs.FlatLayout.{letter_in, counted, axis_at, flat_layout};
 
 use layout::layout::{Axis, Layout};
 use limits::limits::Limits;
@@ -26,13 +26,7 @@ const BASE: usize = 27;
 fn letter_of(word: u32) -> u32
     ensures { result ≡ letter_in word }
 {
-    if word <= 255 { word } else { 0 }
-}
-
-fn count_of(word: u32) -> usize
-    ensures { result ≡ word }
-{
-    word as usize
+    u8::try_from(word).map_or(0, u32::from)
 }
 
 // Word i of those from one place on, or 0 where there are not so many.
@@ -40,14 +34,26 @@ fn word_at(words: &[u32; 28], from: usize, count: usize, i: usize) -> u32
     requires { (from + i < 28) × (count < 28) }
     ensures { result ≡ get_or (counted words.now from count) i 0 }
 {
-    if i < count_of(words[count]) {
+    if i < words[count] as usize {
         words[from + i]
     } else {
         0
     }
 }
 
-// The first 8 axes; what is missing is 0.
+// Axis i; what is missing is 0.
+fn axis_at(words: &[u32; 28], i: usize) -> Axis
+    requires { i < 8 }
+    ensures { result ≡ axis_at words.now i }
+{
+    Axis {
+        letter: letter_of(word_at(words, LETTERS, LETTER_COUNT, i)),
+        extent: word_at(words, EXTENTS, EXTENT_COUNT, i),
+        stride: signed(word_at(words, STRIDES, STRIDE_COUNT, i)),
+    }
+}
+
+// The first 8 axes.
 fn axes_of(words: &[u32; 28]) -> [Axis; Limits::RANK]
     ensures { result ≡ axes_of
         (map letter_in (counted words.now 0 24))
@@ -59,17 +65,8 @@ fn axes_of(words: &[u32; 28]) -> [Axis; Limits::RANK]
         extent: 0,
         stride: 0,
     }; Limits::RANK];
-    let mut i: usize = 0;
-    while i < Limits::RANK {
-        let letter = letter_of(word_at(words, LETTERS, LETTER_COUNT, i));
-        let extent = word_at(words, EXTENTS, EXTENT_COUNT, i);
-        let stride = signed(word_at(words, STRIDES, STRIDE_COUNT, i));
-        axes[i] = Axis {
-            letter,
-            extent,
-            stride,
-        };
-        i += 1;
+    for i in 0..Limits::RANK {
+        axes[i] = axis_at(words, i);
     }
     axes
 }
@@ -78,12 +75,11 @@ fn axes_of(words: &[u32; 28]) -> [Axis; Limits::RANK]
 pub fn layout_of(words: &[u32; 28]) -> Layout
     ensures { result ≡ flat_layout words.now }
 {
-    let axes = axes_of(words);
     Layout {
-        axes,
-        letter_count: count_of(words[LETTER_COUNT]),
-        extent_count: count_of(words[EXTENT_COUNT]),
-        stride_count: count_of(words[STRIDE_COUNT]),
+        axes: axes_of(words),
+        letter_count: words[LETTER_COUNT] as usize,
+        extent_count: words[EXTENT_COUNT] as usize,
+        stride_count: words[STRIDE_COUNT] as usize,
         base: words[BASE],
     }
 }

@@ -13,7 +13,9 @@ use Rattle.words.specs.Lists.{keep, cons_if}
 use Rattle.words.specs.Words.{up, down}
 use Rattle.words.proofs.Whole.{up_mul, down_mul}
 use Rattle.words.proofs.Sums.{every_all}
-use Rattle.contraction.specs.Operands.{Operand, A, B, C, D, operands}
+use Rattle.contraction.specs.Operands.{operands}
+use Rattle.contraction.specs.declared.contraction.Operand.{Operand}
+use Rattle.contraction.specs.declared.contraction.Operand.TheVariants.{A, B, C, D}
 use Rattle.groups.specs.Groups.{Label, size}
 use Rattle.offsets.specs.Counts.{offset}
 use Rattle.folding.specs.Fold.{eq_ℤ, follows, joins, join, join_from, join_all, not_one, fold}

@@ -16,13 +16,7 @@ use Rattle.limits.specs.Limits.{product_limit}
 use Rattle.groups.specs.Groups.{Label}
 use Rattle.groups.specs.Foldable.{points_in, Small, Foldable}
 use Rattle.groups.proofs.Points.{points_pos}
-use Rattle.folding.specs.Fold.{eq_ℤ, joins, join, join_from, join_all, not_one, fold}
-
--- a folded list with one label more: joined to the last one, or behind it
-abbrev pub add_to : List Label → Label → List Label
-add_to [] l = l ∷ []
-add_to (p ∷ []) l = cond (joins p l) (join p l ∷ []) (p ∷ l ∷ [])
-add_to (p ∷ q ∷ g) l = p ∷ add_to (q ∷ g) l
+use Rattle.folding.specs.Fold.{eq_ℤ, joins, join, join_from, join_all, add_to, not_one, fold}
 
 -- two whole numbers are equal where both parts are
 pub eq_parts : (x y : ℤ) → (eqb (up x) (up y) && eqb (down x) (down y)) ≡ eq_ℤ x y

@@ -1,9 +1,10 @@
 -- Folding: in each group, labels of extent 1 are dropped, and labels that step through the words together become one.
 -- Assumes nothing.
-use Rattle.std.specs.Prelude.{◌*◌, Bool, true, false, not, List, [], ◌∷◌, ℤ, pos, negsuc, ◌*ℤ◌, eqb}
+use Rattle.std.specs.Prelude.{◌*◌, Bool, true, false, cond, not, List, [], ◌∷◌, ℤ, pos, negsuc, ◌*ℤ◌, eqb}
 use Rattle.words.specs.Sums.{every}
 use Rattle.words.specs.Lists.{keep}
-use Rattle.contraction.specs.Operands.{Operand, operands}
+use Rattle.contraction.specs.Operands.{operands}
+use Rattle.contraction.specs.declared.contraction.Operand.{Operand}
 use Rattle.groups.specs.Groups.{Label}
 
 abbrev pub eq_ℤ : ℤ → ℤ → Bool
@@ -32,6 +33,12 @@ join_from p (l ∷ g) = elim (joins p l) [ true ↦ join_from (join p l) g | fal
 abbrev pub join_all : List Label → List Label
 join_all [] = []
 join_all (l ∷ g) = join_from l g
+
+-- a folded list with one label more: joined to the last one, or behind it
+abbrev pub add_to : List Label → Label → List Label
+add_to [] l = l ∷ []
+add_to (p ∷ []) l = cond (joins p l) (join p l ∷ []) (p ∷ l ∷ [])
+add_to (p ∷ q ∷ g) l = p ∷ add_to (q ∷ g) l
 
 abbrev pub not_one : Label → Bool
 not_one l = not (eqb l.extent 1)

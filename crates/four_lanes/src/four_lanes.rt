@@ -8,6 +8,8 @@ use limits::limits::Limits;
 use shared_lane::shared_lane::add_lane_to_four;
 
 // The products of a run of depth counts, for n outputs of four runs side by side: a lane of A for each count, which each run multiplies by its own word of B.
+// The four blocks of sums and B's four address words stay parameters of their own: add_lane_to_four takes them so, as does add_block_lane_to_four, which
+// four_columns uses.
 pub fn add_to_four(
     s0: &mut [u32; Limits::BLOCK],
     s1: &mut [u32; Limits::BLOCK],
@@ -39,8 +41,7 @@ pub fn add_to_four(
     let mut j1 = from_1;
     let mut j2 = from_2;
     let mut j3 = from_3;
-    let mut v: u32 = 0;
-    while v < len {
+    for _v in 0..len {
         let b0 = b[j0 as usize];
         let b1 = b[j1 as usize];
         let b2 = b[j2 as usize];
@@ -51,6 +52,5 @@ pub fn add_to_four(
         j1 = std::num::wrapping_add_u64(j1, step_b);
         j2 = std::num::wrapping_add_u64(j2, step_b);
         j3 = std::num::wrapping_add_u64(j3, step_b);
-        v += 1;
     }
 }

@@ -11,7 +11,8 @@ use Rattle.words.specs.Loops.{each}
 use Rattle.words.specs.Stepped.{stepped}
 use Rattle.words.proofs.Loops.{each_ext, each_add, each_swap, each_zip}
 use Rattle.words.proofs.Store.{put_pass}
-use Rattle.contraction.specs.Operands.{Operand, A, D}
+use Rattle.contraction.specs.declared.contraction.Operand.{Operand}
+use Rattle.contraction.specs.declared.contraction.Operand.TheVariants.{A, D}
 use Rattle.groups.specs.Groups.{Label}
 use Rattle.offsets.specs.declared.offsets.Offsets.{Offsets}
 use Rattle.offsets.specs.Offsets.{words_in}
@@ -51,11 +52,12 @@ module _ (from at : ℕ → Offsets) (step : Offsets) (v : ℕ) (e : (q : ℕ) �
     body : ℕ → ℕ → List ℕ → List ℕ
     body q k = filled named alpha beta g a b c (steps (from q) step k)
 
-    pub four_turn : (d₀ : List ℕ) {d new : List ℕ} → d ≡ four_filled named alpha beta g a b c step v from d₀ → new ≡ four_filled named alpha beta g a b c step n at d
-        → new ≡ four_filled named alpha beta g a b c step (v + n) from d₀
+    pub four_turn : (d₀ : List ℕ) {m : ℕ} {d new : List ℕ} → m ≡ v + n → d ≡ four_filled named alpha beta g a b c step v from d₀
+        → new ≡ four_filled named alpha beta g a b c step n at d → new ≡ four_filled named alpha beta g a b c step m from d₀
     unfolding body
-    four_turn d₀ {d} i j =
-        j
+    four_turn d₀ {d = d} s i j =
+        rw s
+        (j
         ∙ each_ext 4 (λ q h s. each_ext n (λ r l u. ap (λ (w : Operand → ℕ). filled named alpha beta g a b c w u) (steps_more (from q) step (at q) v r (e q))) s) d
         ∙ ap (each 4 (λ q. each n (λ r. body q (v + r)))) i
-        ∙ loops_more body v n (λ i j h few k l p q. filled_pass named alpha beta g a b c (steps (from i) step k) (steps (from j) step l) (apart.each i j h few k l p q)) d₀
+        ∙ loops_more body v n (λ i j h few k l p q. filled_pass named alpha beta g a b c (steps (from i) step k) (steps (from j) step l) (apart.each i j h few k l p q)) d₀)

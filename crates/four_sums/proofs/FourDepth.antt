@@ -6,7 +6,7 @@ use Rattle.words.specs.Words.{word, word_of}
 use Rattle.words.specs.Loops.{Within}
 use Rattle.words.specs.Stepped.{stepped}
 use Rattle.words.proofs.Modular.{word_add_left}
-use Rattle.contraction.specs.Operands.{A, B}
+use Rattle.contraction.specs.declared.contraction.Operand.TheVariants.{A, B}
 use Rattle.groups.specs.Groups.{Label, size}
 use Rattle.offsets.specs.Counts.{offset_in}
 use Rattle.offsets.specs.declared.offsets.Offsets.{Offsets}

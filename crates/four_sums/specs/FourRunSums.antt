@@ -3,11 +3,17 @@
 use Rattle.std.specs.Prelude.{◌≡◌, ℕ, ◌+◌, List}
 use Rattle.words.specs.Words.{word}
 use Rattle.words.specs.Stepped.{stepped}
-use Rattle.contraction.specs.Operands.{A, B}
+use Rattle.contraction.specs.declared.contraction.Operand.TheVariants.{A, B}
 use Rattle.offsets.specs.declared.offsets.Offsets.{Offsets}
 use Rattle.offsets.specs.Offsets.{words_in}
+use Rattle.sums.specs.declared.walk.Run.{Run}
 use Rattle.side_sums.specs.SideSums.{side_run, RunsInside}
-use Rattle.four_lanes.specs.FourLanes.{LanesAdded}
+use Rattle.four_lanes.specs.FourLanes.{of_run, LanesAdded}
+use Rattle.four_sums.specs.declared.four_sums.NextRuns.{NextRuns}
+
+-- where a run of outputs and the next three begin
+abbrev pub begins_of : Run → NextRuns → ℕ → Offsets
+begins_of run next = of_run run.from next.second next.third next.fourth
 
 -- along a run A goes word by word and B stands still, and A's address word is the same where each of the runs begins
 pub record Shared (from : ℕ → Offsets) (step : Offsets) : Type 0 where

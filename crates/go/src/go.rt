@@ -1,10 +1,11 @@
 ghost use Rattle.std.specs.Prelude.{◌≡◌, ◌+◌, ◌≤◌, length};
-ghost use Rattle.records.specs.RecordParts.{ReadAs};
+ghost use Rattle.records.specs.RecordParts.{reading, ReadAs};
 ghost use Rattle.go.specs.Record.{go_at, go_record};
-ghost use Rattle.go.specs.GoParts.{go_part, go_in, GoHeld};
+ghost use Rattle.go.specs.GoParts.{go_in, GoHeld};
 
 use little_endian::numbers::{Cursor, four_bytes, two_bytes};
-use marks::marks::{is_go, kind_of};
+use records::records::{Read, kind_at, need};
+use refusals::refusal::Refusal;
 use tiles::grid::Sizes;
 
 // What `GO` holds.
@@ -17,13 +18,8 @@ pub struct Go {
     pub budget: u64,
 }
 
-#[derive(Clone, Copy)]
-pub enum GoRead {
-    Got { go: Go, next: Cursor },
-    Refused(u32),
-}
-
 // The numbers of a `GO` that is there whole.
+#[tactic(auto, unfolding(crate::specs::Record::go_at))]
 fn go_at(file: &[u8], at: usize) -> Go
     requires { at + 24 ≤ length file.now }
     ensures { result ≡ go_at file.now at }
@@ -32,32 +28,25 @@ fn go_at(file: &[u8], at: usize) -> Go
         alpha: four_bytes(file, at + 2),
         beta: four_bytes(file, at + 6),
         sizes: Sizes {
-            rows: two_bytes(file, at + 10) as u32,
-            cols: two_bytes(file, at + 12) as u32,
-            depth: two_bytes(file, at + 14) as u32,
+            rows: u32::from(two_bytes(file, at + 10)),
+            cols: u32::from(two_bytes(file, at + 12)),
+            depth: u32::from(two_bytes(file, at + 14)),
         },
-        done: four_bytes(file, at + 16) as u64,
-        budget: four_bytes(file, at + 20) as u64,
+        done: u64::from(four_bytes(file, at + 16)),
+        budget: u64::from(four_bytes(file, at + 20)),
     }
 }
 
 // The record `GO`.
-pub fn go_record(file: &[u8], from: Cursor) -> GoRead
+pub fn go_record(file: &[u8], from: Cursor) -> Read<Go>
     requires { from.at ≤ length file.now }
-    ensures { ReadAs go_in GoHeld file.now (go_part result) (go_record file.now from.at) }
+    ensures { ReadAs go_in GoHeld file.now (reading result) (go_record file.now from.at) }
 {
     let at = from.at;
-    if !from.has(file, 2) {
-        return GoRead::Refused(21);
+    let kind = kind_at(file, from)?;
+    if !kind.is_go() {
+        return Err(Refusal::Mark);
     }
-    if !is_go(kind_of(two_bytes(file, at))) {
-        return GoRead::Refused(20);
-    }
-    if !from.has(file, 24) {
-        return GoRead::Refused(21);
-    }
-    GoRead::Got {
-        go: go_at(file, at),
-        next: Cursor { at: at + 24 },
-    }
+    need(file, from, 24)?;
+    Ok((go_at(file, at), Cursor { at: at + 24 }))
 }

@@ -1,17 +1,20 @@
 -- A label as the code holds it, and the code's list of labels: one label more at its end, and its last label.
 -- Assumes nothing.
-use mathlib.Core.Path.{◌≡◌, ap, ◌∙◌, fun_ext}
+use mathlib.Core.Path.{◌≡◌, sym, ap, ◌∙◌, fun_ext}
 use mathlib.Core.List.{List, [], ◌∷◌, ◌++◌, map, map-append}
-use Prim.Native.Nat.{ℕ, ◌+◌, ◌<◌}
-use lib.ListN.{length, get_or, set, length-map}
+use Prim.Native.Nat.{ℕ, ◌+◌, ◌<◌, ◌≤◌}
+use lib.ListN.{length, get_or, take, set, length-map}
 use lib.IntN.{ℤ}
+use Rattle.std.proofs.lemmas.List.{get_or-take, length-take-le}
 use Rattle.words.specs.Lists.{first_of}
 use Rattle.words.specs.Words.{word_of, signed}
-use Rattle.words.proofs.Tabulate.{first_of_suc, first_of_push, length_first_of}
+use Rattle.words.proofs.Tabulate.{tabulate_ext, first_of_suc, first_of_push, first_of_all, length_first_of}
 use Rattle.labels.specs.Labels.{stride_of, extent_of}
 use Rattle.labels.proofs.Facts.{signed_stride}
 use Rattle.contraction.specs.declared.operands.Operands.{Operands}
-use Rattle.contraction.specs.Operands.{Operand, A, B, C, D, together}
+use Rattle.contraction.specs.Operands.{together}
+use Rattle.contraction.specs.declared.contraction.Operand.{Operand}
+use Rattle.contraction.specs.declared.contraction.Operand.TheVariants.{A, B, C, D}
 use Rattle.contraction.specs.TensorPlaces.{by_tensor}
 use Rattle.contraction.specs.TensorAxes.{axes_in, shape_of, Gathered}
 use Rattle.groups.specs.declared.groups.Dim.{Dim}
@@ -27,6 +30,15 @@ holding dims n = record { dims = dims; count = n }
 pub labels_count : (g : Group) → length (labels_in g) ≡ g.count
 unfolding labels_in
 labels_count g = length-map (first_of g.count no_dim g.dims) as_label ∙ length_first_of g.count no_dim g.dims
+
+-- the first items of an array that has as many
+pub first_taken : {X : Type 0} (d : X) (xs : List X) (n : ℕ) → n ≤ length xs → first_of n d xs ≡ take n xs
+first_taken d xs n h = tabulate_ext n (λ i b. sym (get_or-take n xs i d b)) ∙ first_of_all d (take n xs) n (length-take-le n xs h)
+
+-- the labels are the first ones of the array
+pub labels_held : (g : Group) → g.count ≤ length g.dims → labels_in g ≡ map as_label (take g.count g.dims)
+unfolding labels_in
+labels_held g h = ap (map as_label) (first_taken no_dim g.dims g.count h)
 
 -- with one more stored behind them
 pub labels_push : (dims : List Dim) (n : ℕ) (l : Dim) → n < length dims → labels_in (holding (set dims n l) (n + 1)) ≡ labels_in (holding dims n) ++ as_label l ∷ []

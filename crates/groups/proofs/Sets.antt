@@ -17,7 +17,9 @@ use Rattle.labels.specs.declared.letter_sets.Letters.{Letters}
 use Rattle.labels.specs.Labels.{labels}
 use Rattle.labels.specs.LetterSets.{has, Spells}
 use Rattle.contraction.specs.declared.operands.Operands.{Operands}
-use Rattle.contraction.specs.Operands.{Operand, A, B, D, together}
+use Rattle.contraction.specs.Operands.{together}
+use Rattle.contraction.specs.declared.contraction.Operand.{Operand}
+use Rattle.contraction.specs.declared.contraction.Operand.TheVariants.{A, B, D}
 use Rattle.contraction.specs.TensorAxes.{shape_of, Gathered}
 use Rattle.contraction.proofs.Together.{every_together}
 use Rattle.groups.specs.declared.groups.Sets.{Sets}

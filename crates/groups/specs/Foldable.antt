@@ -3,7 +3,7 @@
 use Rattle.std.specs.Prelude.{ℕ, ◌^◌, ◌≤◌, ◌<◌, max, List, nat_abs}
 use Rattle.words.specs.Sums.{product, All}
 use Rattle.limits.specs.Limits.{product_limit}
-use Rattle.contraction.specs.Operands.{Operand}
+use Rattle.contraction.specs.declared.contraction.Operand.{Operand}
 use Rattle.groups.specs.Groups.{Label}
 
 -- a label whose strides times a 32-bit extent fit 64 bits

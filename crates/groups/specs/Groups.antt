@@ -5,7 +5,9 @@ use Rattle.words.specs.Sums.{product}
 use Rattle.words.specs.Lists.{keep, member}
 use Rattle.layout.specs.Layout.{letters_of}
 use Rattle.labels.specs.Labels.{stride_of, extent_of, labels}
-use Rattle.contraction.specs.Operands.{Operand, A, B, D, Shape, together}
+use Rattle.contraction.specs.Operands.{Shape, together}
+use Rattle.contraction.specs.declared.contraction.Operand.{Operand}
+use Rattle.contraction.specs.declared.contraction.Operand.TheVariants.{A, B, D}
 
 -- a letter with its extent, and its stride in each tensor: the sum of its strides there, 0 where it is absent
 pub record Label : Type 0 where

@@ -1,16 +1,16 @@
-ghost use Rattle.std.specs.Prelude.{◌≡◌, false, [], ◌≤◌, length, drop};
+ghost use Rattle.std.specs.Prelude.{◌≡◌, [], ◌≤◌, length, map, drop};
 ghost use Rattle.words.specs.Words.{word_of};
 ghost use Rattle.limits.specs.Limits.{labels_limit};
-ghost use Rattle.validity.specs.Checked.{Checked};
 ghost use Rattle.labels.specs.Labels.{stride_of};
-ghost use Rattle.contraction.specs.Operands.{C, D};
+ghost use Rattle.contraction.specs.declared.contraction.Operand.TheVariants.{C, D};
 ghost use Rattle.contraction.specs.TensorAxes.{shape_of, Gathered};
+ghost use Rattle.contraction.specs.TensorPlaces.{by_tensor};
 ghost use Rattle.groups.specs.Groups.{label, size};
 ghost use Rattle.groups.specs.Held.{as_label, labels_in};
 ghost use Rattle.groups.specs.Foldable.{Foldable};
 ghost use Rattle.groups.specs.Sets.{Split, Grouped};
 
-use contraction::contraction::Contraction;
+use contraction::contraction::{Contraction, Operand};
 use contraction::operands::Operands;
 use labels::labels::stride_of;
 use limits::limits::Limits;
@@ -64,13 +64,13 @@ fn sets_of(a: u64, b: u64, d: u64) -> Sets
 
 // The stride of a letter in C. Where C is not named, that is its stride in D, which is `d`.
 fn stride_in_c(x: Operands, c: u32, d: u64) -> u64
-    requires { Checked x.c.axes × (x.named ≡ false → x.c ≡ x.d) × (d ≡ word_of 64 (stride_of c (shape_of x D))) }
+    requires { Gathered x × (d ≡ word_of 64 (stride_of c (shape_of x D))) }
     ensures { result ≡ word_of 64 (stride_of c (shape_of x C)) }
 {
-    if !x.named {
-        return d;
+    match x.c {
+        Some(l) => stride_of(l.axes, c),
+        None => d,
     }
-    stride_of(x.c.axes, c)
 }
 
 // A letter's label.
@@ -92,6 +92,15 @@ pub fn dim_of(x: Operands, c: u32) -> Dim
     }
 }
 
+impl Dim {
+    // Its stride in a tensor.
+    pub fn stride(self, o: Operand) -> u64
+        ensures { result ≡ by_tensor self.strides o }
+    {
+        self.strides[o.place()]
+    }
+}
+
 impl Group {
     pub fn none() -> Group
         ensures { (labels_in result ≡ []) × (result.count ≡ 0) × (length result.dims ≡ labels_limit) }
@@ -108,17 +117,22 @@ impl Group {
         }
     }
 
+    // Its labels.
+    pub fn labels(&self) -> &[Dim]
+        requires { self.now.count ≤ labels_limit }
+        ensures { (length result.now ≡ self.now.count) × (labels_in self.now ≡ map as_label result.now) }
+    {
+        &self.dims[..self.count]
+    }
+
     // The product of the extents of the labels from a place on.
     pub fn size_from(self, start: usize) -> u32
         requires { (self.count ≤ labels_limit) × (start ≤ self.count) × Foldable (labels_in self) }
         ensures { result ≡ size (drop start (labels_in self)) }
     {
         let mut product: u32 = 1;
-        let mut i = self.count;
-        while i > start {
-            i -= 1;
-            let l = self.dims[i];
-            product = l.extent * product;
+        for l in &self.labels()[start..] {
+            product *= l.extent;
         }
         product
     }

@@ -7,14 +7,15 @@ use native.Mathlib.Omega.{arith}
 use lib.ListN.{length}
 use lib.Seq.{length-take-le}
 use Rattle.io.specs.Counts.{IsPrefixLen}
+use Rattle.std.specs.Prelude.{unwrap_or}
 use Rattle.contraction.specs.declared.contraction.Contraction.{Contraction}
 use Rattle.contraction.specs.Operands.{four}
-use Rattle.little_endian.specs.declared.numbers.Cursor.{Cursor}
-use Rattle.records.specs.RecordParts.{map_reading, words_of}
+use Rattle.records.specs.declared.records.TensorParts.{TensorParts}
+use Rattle.records.specs.RecordParts.{words_of}
+use Rattle.records.specs.Records.{got, file_refused}
 use Rattle.jobfile.specs.declared.reader.JobParts.{JobParts}
-use Rattle.jobfile.specs.declared.reader.JobRead.{JobRead}
 use Rattle.jobfile.specs.Format.{read_job}
-use Rattle.jobfile.specs.JobParts.{job_parts, job_in}
+use Rattle.jobfile.specs.JobParts.{job_in}
 use Rattle.decode.specs.JobValues.{contraction_in}
 use Rattle.report.specs.Text.{refused_text}
 use Rattle.report.specs.Written.{Begins}
@@ -31,18 +32,18 @@ put_counted out {r} {out'} text' e same p =
     (q, (room, sym (length-take-le r out' room)))
 
 -- the text of the call that a job asks for
-pub job_text_lem : (file : List ℕ) (p : JobParts) {k : Contraction} {a b c d : List ℕ} → k ≡ contraction_in (job_in file p)
-    → a ≡ words_of file p.a.words → b ≡ words_of file p.b.words → c ≡ words_of file p.c.words → d ≡ words_of file p.d.words
+pub job_text_lem : (file : List ℕ) (p : JobParts) {standing : TensorParts} {k : Contraction} {a b c d : List ℕ} → standing ≡ unwrap_or p.c p.d → k ≡ contraction_in (job_in file p)
+    → a ≡ words_of file p.a.words → b ≡ words_of file p.b.words → c ≡ words_of file standing.words → d ≡ words_of file p.d.words
     → tile_text k p.go.sizes (four a b c d) p.go.done p.go.budget ≡ run_text (job_in file p)
 unfolding run_text tile_text
-job_text_lem file p ek ea eb ec ed = rw (ek, ea, eb, ec, ed)
+job_text_lem file p es ek ea eb ec ed = rw (ek, ea, eb, ec, ed, es)
 
 -- the text of what was read of a file
-module _ (file : List ℕ) {read : JobRead} (reads : map_reading (job_in file) (job_parts read) ≡ read_job file) where
-  pub got_text : {p : JobParts} {end : Cursor} → read ≡ JobRead.Got p end → run_text (job_in file p) ≡ job_text file
+module _ (file : List ℕ) where
+  pub got_text : (p : JobParts) {end : ℕ} → got (job_in file p) end ≡ read_job file → run_text (job_in file p) ≡ job_text file
   unfolding job_text reading_text
-  got_text is = rw (← reads, is)
+  got_text p reads = rw (← reads)
 
-  pub unread_text : {number : ℕ} → read ≡ JobRead.Refused number → refused_text number ≡ job_text file
+  pub unread_text : {n q : ℕ} → n ≡ q → file_refused q ≡ read_job file → refused_text n ≡ job_text file
   unfolding job_text reading_text
-  unread_text is = rw (← reads, is)
+  unread_text e reads = rw (← reads, e)

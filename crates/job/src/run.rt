@@ -7,7 +7,7 @@ ghost use Rattle.job.specs.Run.{run_text, job_text};
 
 use decode::decode::{contraction_in, job_words};
 use job_call::answer::put_call;
-use jobfile::reader::{JobParts, JobRead, read_job};
+use jobfile::reader::{JobParts, read_job};
 use limits::limits::Limits;
 use report::report::put_refused;
 
@@ -16,22 +16,19 @@ fn put_job(file: &[u8], job: JobParts, out: &mut [u8]) -> usize
     requires { JobHeld file.now job × (text_room ≤ length out.old) }
     ensures { Begins out.old (run_text (job_in file.now job)) result out.new }
 {
-    let count_a = job.a.words.count;
-    let count_b = job.b.words.count;
-    let count_c = job.c.words.count;
-    let count_d = job.d.words.count;
+    let words_c = job.c.unwrap_or(job.d).words;
     let k = contraction_in(file, job);
     let a = job_words(file, job.a.words);
     let b = job_words(file, job.b.words);
-    let c = job_words(file, job.c.words);
+    let c = job_words(file, words_c);
     let mut d = job_words(file, job.d.words);
     put_call(
         k,
         job.go.sizes,
-        &a[..count_a],
-        &b[..count_b],
-        &c[..count_c],
-        &mut d[..count_d],
+        &a[..job.a.words.count],
+        &b[..job.b.words.count],
+        &c[..words_c.count],
+        &mut d[..job.d.words.count],
         job.go.done,
         job.go.budget,
         out,
@@ -44,9 +41,8 @@ pub fn run(file: &[u8], out: &mut [u8; Limits::TEXT]) -> usize
         × (out.new ≡ written out.old 0 (job_text file.now)) }
     ensures prefix_len { IsPrefixLen result out.new }
 {
-    let read = read_job(file);
-    match read {
-        JobRead::Got { parts, end: _ } => put_job(file, parts, out),
-        JobRead::Refused(number) => put_refused(out, number),
+    match read_job(file) {
+        Ok((parts, _)) => put_job(file, parts, out),
+        Err(refusal) => put_refused(out, u32::from(refusal)),
     }
 }

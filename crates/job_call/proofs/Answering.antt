@@ -1,11 +1,13 @@
 -- Laws for the functions that answer a tile call with text. Each rewrites a definition by what the callees ensure.
 -- Assumes nothing.
 use mathlib.Core.Path.{◌≡◌, refl, sym, ap}
-use mathlib.Core.Bool.{Bool}
 use mathlib.Core.List.{List, ◌∷◌}
 use Prim.Native.Nat.{ℕ, zero, suc, ◌+◌, ◌*◌, ◌≤◌}
 use native.Mathlib.Omega.{arith}
 use lib.ListN.{length, replicate}
+use Rattle.std.specs.Prelude.{Result, Ok, Err}
+use Rattle.refusals.specs.declared.refusal.Refusal.{Refusal}
+use Rattle.refusals.specs.Numbers.{number}
 use Rattle.words.specs.Lists.{tabulate}
 use Rattle.limits.specs.Limits.{job_limit, work_room, text_room}
 use Rattle.contraction.specs.declared.contraction.Contraction.{Contraction}
@@ -13,7 +15,7 @@ use Rattle.contraction.specs.Operands.{four}
 use Rattle.tiles.specs.declared.grid.Sizes.{Sizes}
 use Rattle.tiles.specs.Cut.{total}
 use Rattle.tile_blocks.specs.ContractionInTiles.{cut_of}
-use Rattle.answers.specs.declared.tile_answer.Outcome.{Outcome}
+use Rattle.answers.specs.declared.tile_answer.Ran.{Ran}
 use Rattle.answers.specs.TileAnswer.{TileAnswer, tile_answer, tile_call_of}
 use Rattle.tiled.specs.TileCall.{tile_call}
 use Rattle.states.specs.StateLetters.{state_letters}
@@ -47,16 +49,16 @@ module _ (k : Contraction) (z : Sizes) (a b c d : List ℕ) (done budget : ℕ) 
   unfolding call_text
   answer_text_lem n gives = rw (← zeros n, ← gives)
 
-  module _ {o : Outcome} {d' work' : List ℕ} (gives : tile_call_of (tile_answer o) d' work' ≡ tile_call k z (four a b c d) (replicate work_room 0) done budget) where
+  module _ {o : Result Ran Refusal} {d' work' : List ℕ} (gives : tile_call_of (tile_answer done o) d' work' ≡ tile_call k z (four a b c d) (replicate work_room 0) done budget) where
     -- it ran: the letters are asked of D's words after it, which are as many as before
-    module _ {t : ℕ} {full : Bool} (is : o ≡ Outcome.Ran t full) (kept : length d' ≡ length d) where
+    module _ {x : Ran} (is : o ≡ Ok x) (kept : length d' ≡ length d) where
       pub ran_asks : Accepted k z (four a b c d')
       ran_asks = accepted_same k z a b c d d' (sym kept) (ran_accepted k z (four a b c d) (replicate work_room 0) done budget (rw is at gives))
 
-      pub ran_text : report_text t (total (cut_of k z)) d' (state_letters k z (four a b c d') t) ≡ tile_text k z (four a b c d) done budget
+      pub ran_text : report_text x.done (total (cut_of k z)) d' (state_letters k z (four a b c d') x.done) ≡ tile_text k z (four a b c d) done budget
       unfolding answer_text tile_text
-      ran_text = rw (letters_same_lem k z a b c d' d t kept) (answer_text_lem work_room (rw is at gives))
+      ran_text = rw (letters_same_lem k z a b c d' d x.done kept) (answer_text_lem work_room (rw is at gives))
 
-    pub refused_text_lem : {number t : ℕ} → o ≡ Outcome.Refused number t → refused_text number ≡ tile_text k z (four a b c d) done budget
+    pub refused_text_lem : {e : Refusal} → o ≡ Err e → refused_text (number e) ≡ tile_text k z (four a b c d) done budget
     unfolding answer_text tile_text
     refused_text_lem is = answer_text_lem work_room (rw is at gives)

@@ -9,7 +9,6 @@ ghost use Rattle.report.specs.Text.{report_text};
 ghost use Rattle.report.specs.Written.{Begins};
 ghost use Rattle.job_call.specs.TileText.{tile_text};
 
-use answers::tile_answer::Outcome;
 use contraction::contraction::Contraction;
 use limits::limits::Limits;
 use report::report::{put_refused, put_report};
@@ -59,10 +58,7 @@ pub fn put_call(
     let mut work = [0u32; Limits::WORK];
     let outcome = run(k, z, a, b, c, d, &mut work, done, budget);
     match outcome {
-        Outcome::Ran {
-            done: t,
-            complete: _,
-        } => put_ran(k, z, a, b, c, d, t, out),
-        Outcome::Refused { number, done: _ } => put_refused(out, number),
+        Ok(ran) => put_ran(k, z, a, b, c, d, ran.done, out),
+        Err(refusal) => put_refused(out, u32::from(refusal)),
     }
 }

@@ -1,22 +1,31 @@
--- Laws for the part of the file that C has where it is named, and D where it is not.
+-- Laws for C, which a job may leave out, where D stands for it.
 -- Assumes nothing.
 use Prim.Native.Nat.{ℕ}
-use mathlib.Core.Path.{◌≡◌}
-use mathlib.Core.Bool.{Bool, true, false, cond}
+use mathlib.Core.Path.{◌≡◌, refl}
+use mathlib.Core.Bool.{Bool, true, false}
 use mathlib.Core.List.{List}
+use Rattle.std.specs.Prelude.{Option, Some, None, is_some, unwrap_or, cond}
+use Rattle.marks.specs.Marks.{letter_c}
 use Rattle.records.specs.declared.records.TensorParts.{TensorParts}
-use Rattle.records.specs.RecordParts.{tensor_in, TensorHeld}
+use Rattle.records.specs.Records.{Reading, got, file_refused, then, Tensor, layout_begins, tensor_records}
+use Rattle.records.specs.RecordParts.{tensor_in}
 use Rattle.go.specs.declared.go.Go.{Go}
-use Rattle.jobfile.specs.JobParts.{job_after, job_in}
+use Rattle.jobfile.specs.Format.{job_if, from_d, from_c}
+use Rattle.jobfile.specs.JobParts.{job_after, c_at, c_in}
 
-module _ (file : List ℕ) (c d : TensorParts) {r : TensorParts} where
-  -- it is held, as both are
-  pub stands_held : (named : Bool) → r ≡ cond named c d → TensorHeld file c → TensorHeld file d → TensorHeld file r
-  stands_held true is hc hd = rw is hc
-  stands_held false is hc hd = rw is hd
+-- the job with it is the one that D and `GO` make with the tensors before them
+pub stands_in : (file : List ℕ) (c : Option TensorParts) (d : TensorParts) (a b : Tensor) (go : Go)
+    → job_if (is_some c) a b (tensor_in file (unwrap_or c d)) (tensor_in file d) go ≡ job_after a b (c_in file c) (tensor_in file d) go
+stands_in file (Some c) d a b go = refl
+stands_in file None d a b go = refl
 
-  -- the job with it is the one that D and `GO` make with the tensors before them
-  pub stands_in : (named : Bool) → r ≡ cond named c d → (a b : TensorParts) (go : Go)
-      → job_in file (record { a = a; b = b; c = r; d = d; named = named; go = go }) ≡ job_after named (tensor_in file a) (tensor_in file b) (tensor_in file c) (tensor_in file d) go
-  stands_in true is a b go = rw is
-  stands_in false is a b go = rw is
+-- C's records where they are there, and then D's
+pub c_then_d : (file : List ℕ) (a b : Tensor) (at : ℕ) → then (c_at file at) (λ c. from_d file (job_after a b c)) ≡ from_c file a b at
+unfolding c_at from_c
+c_then_d file a b at = by_mark (layout_begins file letter_c at) (tensor_records file letter_c at)
+  where
+    by_mark : (b' : Bool) (read : Reading Tensor) → then (cond b' (then read (λ c. got (Some c))) (got None at)) (λ c. from_d file (job_after a b c))
+        ≡ cond b' (then read (λ c. from_d file (job_after a b (Some c)))) (from_d file (job_after a b None) at)
+    by_mark true (got c next) = refl
+    by_mark true (file_refused number) = refl
+    by_mark false read = refl

@@ -1,3 +1,4 @@
 pub mod Bits
 pub mod Facts
 pub mod Spelling
+pub mod StrideSums

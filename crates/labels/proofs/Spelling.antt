@@ -1,17 +1,15 @@
 -- Letters one by one: a letter's bit tells it from all others, and adding the letters of a list in turn gives its different ones in order
 -- of first appearance.
 -- Assumes nothing.
-use Rattle.std.proofs.Common.{◌≡◌, ℕ, ◌+◌, ◌%◌, ◌<◌, ◌≤◌, Bool, true, false, cond, not, ◌&&◌, ◌||◌, T, eqb, leb, List, [], ◌∷◌, ◌++◌, length, get_or, sym, refl, ap, ◌∙◌, subst, true≢false, append_assoc, append-nil, arith, leb-true}
+use Rattle.std.proofs.Common.{◌≡◌, ℕ, ◌+◌, ◌%◌, ◌<◌, ◌≤◌, Bool, true, false, cond, not, ◌&&◌, ◌||◌, T, eqb, leb, List, [], ◌∷◌, ◌++◌, length, get_or, take, sym, refl, ap, ◌∙◌, subst, true≢false, append_assoc, append-nil, arith, leb-true}
 use mathlib.Core.List.{map-append}
-use Rattle.words.specs.Lists.{first_of, member, keep, cons_if, distinct}
-use Rattle.words.specs.Sums.{every}
+use Rattle.std.proofs.lemmas.List.{take_more}
+use Rattle.words.specs.Lists.{member, keep, cons_if, distinct}
 use Rattle.words.proofs.Lists.{T_true, eqb-true, eqb_ne, eqb_self, eqb_flip, keep_append}
-use Rattle.words.proofs.Sums.{and_split, every_drop}
-use Rattle.words.proofs.Tabulate.{length_first_of, first_of_suc, from, from_next}
+use Rattle.words.proofs.Sums.{every_at}
+use Rattle.words.proofs.Tabulate.{length_first_of}
 use Rattle.layout.specs.declared.layout.Axis.{Axis}
-use Rattle.layout.specs.declared.axes.Axes.{Axes}
 use Rattle.layout.specs.Layout.{no_axis, letters_of}
-use Rattle.layout.specs.Listed.{listed}
 use Rattle.validity.specs.Letters.{is_letter}
 use Rattle.validity.specs.TensorQuestions.{letters_valid}
 use Rattle.labels.specs.declared.letter_sets.Letters.{Letters}
@@ -77,16 +75,10 @@ distinct_next (x ∷ xs) c = rw (distinct_next xs c, keep_added (λ d. not (eqb 
         inner true = refl
         inner false = refl
 
--- a test that passes at every axis passes at each; axes that passed question 3 have letters
-pub every_listed : (p : Axis → Bool) (x : Axes) → T (every p (listed x)) → (i : ℕ) → i < x.count → T (p (get_or x.items i no_axis))
-unfolding listed
-every_listed p x t i h =
-    (and_split (p (get_or x.items i no_axis)) (every p (from no_axis x.items x.count (i + 1)))
-    (rw (from_next no_axis x.items x.count i h) at (every_drop p i (listed x) t))).0
-
-pub letter_listed : (x : Axes) → T (letters_valid (listed x)) → (i : ℕ) → i < x.count → is_letter (get_or x.items i no_axis).letter ≡ true
+-- axes that passed question 3 have letters
+pub letter_at : (xs : List Axis) (i : ℕ) → T (letters_valid xs) → i < length xs → is_letter (get_or xs i no_axis).letter ≡ true
 unfolding letters_valid
-letter_listed x t i h = T_true _ (every_listed (λ a. is_letter a.letter) x t i h)
+letter_at xs i t h = T_true _ (every_at (λ a. is_letter a.letter) xs i no_axis t h)
 
 -- the labels of axes, with one axis more behind them
 labels_behind : (xs : List Axis) (a : Axis) → labels (xs ++ a ∷ []) ≡ added a.letter (labels xs)
@@ -94,15 +86,18 @@ unfolding labels
 labels_behind xs a = ap distinct (map-append (λ a. a.letter) xs (a ∷ [])) ∙ distinct_next (letters_of xs) a.letter
 
 -- and of the first of other axes behind them, with the next one
-pub labels_next : (xs ys : List Axis) (i : ℕ) → labels (xs ++ first_of (i + 1) no_axis ys) ≡ added (get_or ys i no_axis).letter (labels (xs ++ first_of i no_axis ys))
-labels_next xs ys i =
-    ap (λ zs. labels (xs ++ zs)) (first_of_suc i no_axis ys) ∙ ap labels (sym (append_assoc xs (first_of i no_axis ys) (get_or ys i no_axis ∷ [])))
-    ∙ labels_behind (xs ++ first_of i no_axis ys) (get_or ys i no_axis)
+pub labels_next : (xs ys : List Axis) (i : ℕ) → i < length ys → labels (xs ++ take (i + 1) ys) ≡ added (get_or ys i no_axis).letter (labels (xs ++ take i ys))
+labels_next xs ys i h =
+    ap (λ zs. labels (xs ++ zs)) (take_more ys i no_axis h) ∙ ap labels (sym (append_assoc xs (take i ys) (get_or ys i no_axis ∷ [])))
+    ∙ labels_behind (xs ++ take i ys) (get_or ys i no_axis)
 
 -- the code's list spells what it holds, as many letters as it counts
 pub spells_itself : (x : Letters) (cs : List ℕ) → Spells x cs → Spells x (spelled x)
 spells_itself x cs s = subst (Spells x) (sym s.spells) s
 
-pub spells_count : (x : Letters) (cs : List ℕ) → Spells x cs → x.count ≡ length cs
+pub length_spelled : (x : Letters) → length (spelled x) ≡ x.count
 unfolding spelled
-spells_count x cs s = sym (length_first_of x.count 0 x.letters) ∙ ap length s.spells
+length_spelled x = length_first_of x.count 0 x.letters
+
+pub spells_count : (x : Letters) (cs : List ℕ) → Spells x cs → x.count ≡ length cs
+spells_count x cs s = sym (length_spelled x) ∙ ap length s.spells

@@ -11,7 +11,7 @@ ghost use Rattle.labels.specs.Labels.{labels};
 use layout::axes::Axes;
 use limits::limits::Limits;
 
-// Different letters in order, beside the set of them as bits of a 64-bit word.
+// Different letters in order, beside the set of them as bits of a 64-bit word. Stays an array with its count: there is no heap, and `spelled` reads both.
 #[derive(Clone, Copy)]
 pub struct Letters {
     pub letters: [u8; Limits::LETTERS],
@@ -23,31 +23,31 @@ pub struct Letters {
 pub fn wide(c: u8) -> u32
     ensures { result ≡ c }
 {
-    c as u32
-}
-
-fn bit_of(c: u32) -> u32
-    ensures { result ≡ c % 64 }
-{
-    c % 64
+    u32::from(c)
 }
 
 // Does the set have the letter?
 pub fn has_letter(set: u64, c: u32) -> bool
     ensures { result ≡ has set c }
 {
-    let k = bit_of(c);
-    (set >> k) % 2 == 1
+    (set >> (c % 64)) % 2 == 1
 }
 
 fn insert(set: u64, c: u32) -> u64
     ensures { (d : ℕ) → has result d ≡ (d % 64 == c % 64 || has set d) }
 {
-    let k = bit_of(c);
-    set | (1u64 << k)
+    set | 1u64 << (c % 64)
 }
 
 impl Letters {
+    // The letters as a slice.
+    pub fn as_slice(&self) -> &[u8]
+        requires { self.now.count ≤ letters_limit }
+        ensures { result.now ≡ spelled self.now }
+    {
+        &self.letters[..self.count]
+    }
+
     pub fn none() -> Letters
         ensures { Spells result [] }
     {
@@ -83,13 +83,10 @@ impl Letters {
         ensures { ((xs : List Axis) → Spells self (labels xs) → Spells result (labels (xs ++ listed x)))
             × (result.count ≤ self.count + x.count) }
     {
-        let count = x.count;
+        let axes = x.as_slice();
         let mut all = self;
-        let mut i: usize = 0;
-        while i < count {
-            let a = x.items[i];
+        for a in axes {
             all = all.with(a.letter);
-            i += 1;
         }
         all
     }

@@ -11,20 +11,8 @@ fn pack_short(src: &[u32], at: u64, step: u64, n: usize, out: &mut [u32], to: us
 {
     out[to] = src[at as usize];
     if n == 2 {
-        let next = std::num::wrapping_add_u64(at, step);
+        let next = at.wrapping_add(step);
         out[to + 1] = src[next as usize];
-    }
-}
-
-// n words one after the other from `at` on, stored from `to` on.
-fn copy(src: &[u32], at: usize, n: usize, out: &mut [u32], to: usize)
-    requires { (at + n ≤ length src.now) × (to + n ≤ length out.old) }
-    ensures { out.new ≡ stored n (λ k. slice_index src.now (at + k)) to out.old }
-{
-    let mut k: usize = 0;
-    while k < n {
-        out[to + k] = src[at + k];
-        k += 1;
     }
 }
 
@@ -34,11 +22,9 @@ fn gather(src: &[u32], at: u64, step: u64, n: usize, out: &mut [u32], to: usize)
     ensures { out.new ≡ stored n (λ k. slice_index src.now (stepped at step k)) to out.old }
 {
     let mut place = at;
-    let mut k: usize = 0;
-    while k < n {
+    for k in 0..n {
         out[to + k] = src[place as usize];
-        place = std::num::wrapping_add_u64(place, step);
-        k += 1;
+        place = place.wrapping_add(step);
     }
 }
 
@@ -50,7 +36,8 @@ pub fn pack_words(src: &[u32], at: u64, step: u64, n: usize, out: &mut [u32], to
     if n < 3 {
         pack_short(src, at, step, n, out, to);
     } else if step == 1 {
-        copy(src, at as usize, n, out, to);
+        let first = at as usize;
+        out[to..to + n].copy_from_slice(&src[first..first + n]);
     } else {
         gather(src, at, step, n, out, to);
     }

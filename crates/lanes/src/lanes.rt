@@ -12,7 +12,7 @@ pub fn add_at(sums: &mut [u32; Limits::BLOCK], r: usize, a: u32, by: u32)
     requires { r < block_limit }
     ensures { sums.new ≡ slice_set sums.old r (word 32 (slice_index sums.old r + word 32 (a * by))) }
 {
-    sums[r] = std::num::wrapping_add_u32(sums[r], words::mul(a, by));
+    sums[r] = sums[r].wrapping_add(words::mul(a, by));
 }
 
 // To each of n sums the product of a word and `by`: words one after the other.
@@ -20,26 +20,23 @@ pub fn add_scaled(sums: &mut [u32; Limits::BLOCK], x: &[u32], from: usize, n: us
     requires { (n ≤ block_limit) × (from + n ≤ length x.now) }
     ensures { sums.new ≡ products_added n (scaled x.now from by) sums.old }
 {
-    let mut r: usize = 0;
-    while r < n {
+    for r in 0..n {
         let w = x[from + r];
         add_at(sums, r, w, by);
-        r += 1;
     }
 }
 
 // The same where each word is a step from the one before.
+// Stays a twin of add_scaled: a variable step keeps the compiler from a vector loop, and the contract of a closure for the place would be longer than this.
 fn add_spread(sums: &mut [u32; Limits::BLOCK], x: &[u32], from: u64, step: u64, n: usize, by: u32)
     requires { (n ≤ block_limit) × Within n (stepped from step) (length x.now) }
     ensures { sums.new ≡ products_added n (spread x.now from step by) sums.old }
 {
     let mut at = from;
-    let mut r: usize = 0;
-    while r < n {
+    for r in 0..n {
         let w = x[at as usize];
         add_at(sums, r, w, by);
-        at = std::num::wrapping_add_u64(at, step);
-        r += 1;
+        at = at.wrapping_add(step);
     }
 }
 
@@ -68,16 +65,15 @@ fn add_paired(sums: &mut [u32; Limits::BLOCK], a: &[u32], b: &[u32], i: usize, j
     ensures { sums.new
         ≡ products_added n (λ r. slice_index a.now (i + r) * slice_index b.now (j + r)) sums.old }
 {
-    let mut r: usize = 0;
-    while r < n {
+    for r in 0..n {
         let w = a[i + r];
         let by = b[j + r];
         add_at(sums, r, w, by);
-        r += 1;
     }
 }
 
 // To each of n sums the product of a word of A and a word of B, in each a step from the one before.
+// Stays a twin of add_paired: variable steps keep the compiler from a vector loop, and the contract of closures for the places would be longer than this.
 fn add_stepped(
     sums: &mut [u32; Limits::BLOCK],
     a: &[u32],
@@ -96,14 +92,12 @@ fn add_stepped(
 {
     let mut i = from_a;
     let mut j = from_b;
-    let mut r: usize = 0;
-    while r < n {
+    for r in 0..n {
         let w = a[i as usize];
         let by = b[j as usize];
         add_at(sums, r, w, by);
-        i = std::num::wrapping_add_u64(i, step_a);
-        j = std::num::wrapping_add_u64(j, step_b);
-        r += 1;
+        i = i.wrapping_add(step_a);
+        j = j.wrapping_add(step_b);
     }
 }
 

@@ -1,10 +1,10 @@
 -- What the loops over output indices put: each turn one letter more, at the place of its output index.
 -- Assumes nothing.
-use Rattle.std.proofs.Common.{◌≡◌, ℕ, ◌+◌, ◌<◌, ◌≤◌, Bool, true, false, cond, eqb, List, length, set, sym, refl, ap, ◌∙◌, zero-le, add-one, arith, eqb-true}
+use Rattle.std.proofs.Common.{◌≡◌, ℕ, ◌+◌, List, length, set, refl, ap, ◌∙◌, add-one, arith}
 use Rattle.words.specs.Words.{word, word_of}
 use Rattle.words.specs.Loops.{each, put}
 use Rattle.words.proofs.Loops.{each_ext, each_none}
-use Rattle.contraction.specs.Operands.{D}
+use Rattle.contraction.specs.declared.contraction.Operand.TheVariants.{D}
 use Rattle.groups.specs.declared.groups.Group.{Group}
 use Rattle.groups.specs.Groups.{batch, row, column, size}
 use Rattle.groups.specs.Held.{labels_in}
@@ -23,51 +23,31 @@ use Rattle.letters.specs.Placed.{lettered, column_letters}
 
 -- ---- loops
 
--- the words are those that n of `bound` turns leave
-pub record Turns (bound : ℕ) (body : ℕ → List ℕ → List ℕ) (was : List ℕ) (n : ℕ) (out : List ℕ) : Type 0 where
-  pub within : n ≤ bound
+-- the words are those that n turns leave
+pub record Turns (body : ℕ → List ℕ → List ℕ) (was : List ℕ) (n : ℕ) (out : List ℕ) : Type 0 where
   pub kept : length out ≡ length was
   pub words : out ≡ each n body was
 
 -- no turn, one turn more, and all
-pub turns_none : (bound : ℕ) (body : ℕ → List ℕ → List ℕ) (out : List ℕ) → Turns bound body out 0 out
+pub turns_none : (body : ℕ → List ℕ → List ℕ) (out : List ℕ) → Turns body out 0 out
 unfolding each
-turns_none bound body out = record { within = zero-le; kept = refl; words = refl }
+turns_none body out = record { kept = refl; words = refl }
 
-module _ {bound : ℕ} {body : ℕ → List ℕ → List ℕ} {was : List ℕ} {n : ℕ} {out : List ℕ} (r : Turns bound body was n out) where
-  pub turns_next : {next : List ℕ} → n < bound → length next ≡ length out → next ≡ body n out → Turns bound body was (n + 1) next
+module _ {body : ℕ → List ℕ → List ℕ} {was : List ℕ} {n : ℕ} {out : List ℕ} (r : Turns body was n out) where
+  pub turns_next : {next : List ℕ} → length next ≡ length out → next ≡ body n out → Turns body was (n + 1) next
   unfolding each
-  turns_next h l e = record { within = omega arith; kept = l ∙ r.kept; words = rw add-one (e ∙ ap (body n) r.words) }
+  turns_next l e = record { kept = l ∙ r.kept; words = rw add-one (e ∙ ap (body n) r.words) }
 
-  pub turns_all : bound ≤ n → out ≡ each bound body was
-  turns_all h = let e : n ≡ bound = omega (arith, r.within) in r.words ∙ ap (λ (k : ℕ). each k body was) e
+  pub turns_all : {bound : ℕ} → n ≡ bound → out ≡ each bound body was
+  turns_all e = r.words ∙ ap (λ (k : ℕ). each k body was) e
 
--- ---- the batch counts that are walked
+-- ---- no tile
 
-module _ {p : Plan} {g : Grid} (o : GridOf p g) (t : ℕ) where
-  -- without a tile there is no output index, so that no turn puts a letter
-  no_letters : g.total ≡ 0 → (out : List ℕ) → each (cut_in g).H (column_letters p (cut_in g) t) out ≡ out
-  no_letters z =
-      each_none _ (cut_in g).H (λ h bh. each_none _ (cut_in g).N (λ j bj. each_none _ (cut_in g).M (λ i bi words.
-      absurd (omega (arith, z, o.counted.total, index_has_tile (cut_in g) o.counted.fits.rows_pos o.counted.fits.cols_pos {h = h} {i = i} {j = j} (bh, bi, bj))))))
-
-  -- none where there is no tile, else all
-  module _ {n : ℕ} (e : n ≡ cond (eqb g.total 0) 0 (cut_in g).H) where
-    pub walked_below : n ≤ (cut_in g).H
-    walked_below = rw e (go (eqb g.total 0))
-      where
-        go : (b : Bool) → cond b 0 (cut_in g).H ≤ (cut_in g).H
-        go true = zero-le
-        go false = omega arith
-
-    pub walked_all : (out : List ℕ) → each n (column_letters p (cut_in g) t) out ≡ each (cut_in g).H (column_letters p (cut_in g) t) out
-    unfolding each
-    walked_all out = rw e (go (eqb g.total 0) (eqb-true g.total 0))
-      where
-        go : (b : Bool) → (b ≡ true → g.total ≡ 0)
-            → each (cond b 0 (cut_in g).H) (column_letters p (cut_in g) t) out ≡ each (cut_in g).H (column_letters p (cut_in g) t) out
-        go true f = sym (no_letters (f refl) out)
-        go false f = refl
+-- without a tile there is no output index, so that no turn puts a letter
+pub no_letters : {p : Plan} {g : Grid} (o : GridOf p g) (t : ℕ) → g.total ≡ 0 → (out : List ℕ) → each (cut_in g).H (column_letters p (cut_in g) t) out ≡ out
+no_letters {p} {g} o t z =
+    each_none _ (cut_in g).H (λ h bh. each_none _ (cut_in g).N (λ j bj. each_none _ (cut_in g).M (λ i bi words.
+    absurd (omega (arith, z, o.counted.total, index_has_tile (cut_in g) o.counted.fits.rows_pos o.counted.fits.cols_pos {h = h} {i = i} {j = j} (bh, bi, bj))))))
 
 -- ---- the row counts of a batch and a column count
 

@@ -1,4 +1,4 @@
-ghost use Rattle.std.specs.Prelude.{◌≡◌, ◌<◌, length, if◌then◌else◌, nat_eq};
+ghost use Rattle.std.specs.Prelude.{◌≡◌, ◌<◌, length};
 ghost use Rattle.words.specs.Loops.{each};
 ghost use Rattle.words.specs.Lists.{tabulate};
 ghost use Rattle.tiles.specs.Grid.{cut_in, state_of};
@@ -6,12 +6,13 @@ ghost use Rattle.tile_blocks.specs.Planned.{GridOf};
 ghost use Rattle.letters.specs.PrintedLetters.{letter_of, outside};
 ghost use Rattle.letters.specs.Placed.{Placed, lettered, column_letters};
 
-use contraction::contraction::Contraction;
-use offsets::offsets::offset_in;
+use contraction::contraction::Operand;
+use counts::counts::offset_in;
 use plan::plan::Plan;
 use tile_blocks::tile_places::at_batch;
 use tiles::grid::{Grid, State};
 
+// The letter that is printed for a state: a match, since the numbers of the letters say nothing.
 fn letter_of(s: State) -> u8
     ensures { result ≡ letter_of (state_of s) }
 {
@@ -27,17 +28,13 @@ fn letter_rows(p: Plan, g: Grid, t: u64, h: u32, j: u32, out: &mut [u8])
     requires { GridOf p g × Placed p (cut_in g) (length out.old) × (h < (cut_in g).H) × (j < (cut_in g).N) }
     ensures { out.new ≡ each (cut_in g).M (λ i. lettered p (cut_in g) t h i j) out.old }
 {
-    let o = Contraction::D;
+    let o = Operand::D;
     let row = p.groups.row;
-    let counts = g.counts;
-    let rows = counts.row;
     let at_column = offset_in(p.groups.column, o, j);
     let from = std::num::wrapping_add_u64(at_batch(p.base, p.groups.batch, o, h), at_column);
-    let mut i: u32 = 0;
-    while i < rows {
+    for i in 0..g.counts.row {
         let at = std::num::wrapping_add_u64(from, offset_in(row, o, i)) as usize;
         out[at] = letter_of(g.state(t, h as u64, i as u64, j as u64));
-        i += 1;
     }
 }
 
@@ -46,20 +43,9 @@ fn letter_columns(p: Plan, g: Grid, t: u64, h: u32, out: &mut [u8])
     requires { GridOf p g × Placed p (cut_in g) (length out.old) × (h < (cut_in g).H) }
     ensures { out.new ≡ column_letters p (cut_in g) t h out.old }
 {
-    let counts = g.counts;
-    let columns = counts.column;
-    let mut j: u32 = 0;
-    while j < columns {
+    for j in 0..g.counts.column {
         letter_rows(p, g, t, h, j, out);
-        j += 1;
     }
-}
-
-// How many batch counts are walked: none where there is no tile and so no output index, however many counts the other groups have.
-fn walked(total: u64, batches: u32) -> u32
-    ensures { result ≡ (if nat_eq total 0 then 0 else batches) }
-{
-    if total == 0 { 0 } else { batches }
 }
 
 // All output indices: each one's letter at its place in D.
@@ -67,12 +53,12 @@ pub fn letter_batches(p: Plan, g: Grid, t: u64, out: &mut [u8])
     requires { GridOf p g × Placed p (cut_in g) (length out.old) }
     ensures { out.new ≡ each (cut_in g).H (column_letters p (cut_in g) t) out.old }
 {
-    let counts = g.counts;
-    let batches = walked(g.total, counts.batch);
-    let mut h: u32 = 0;
-    while h < batches {
+    // Without a tile there is no output index, however many counts the groups have.
+    if g.total == 0 {
+        return;
+    }
+    for h in 0..g.counts.batch {
         letter_columns(p, g, t, h, out);
-        h += 1;
     }
 }
 
@@ -80,9 +66,5 @@ pub fn letter_batches(p: Plan, g: Grid, t: u64, out: &mut [u8])
 pub fn clear(out: &mut [u8])
     ensures { out.new ≡ tabulate (length out.old) (λ k. outside) }
 {
-    let mut k: usize = 0;
-    while k < out.len() {
-        out[k] = b'-';
-        k += 1;
-    }
+    out.fill(b'-');
 }

@@ -31,9 +31,13 @@ module _ (file : List ℕ) where
   unfolding little
   little_two at = rw add-one (omega arith)
 
-  pub little_four : (at : ℕ) → little file 4 at ≡ little file 2 at + 65536 * little file 2 (at + 2)
+  pub little_four : (at : ℕ)
+      → little file 4 at ≡ get_or file at 0 + 256 * get_or file (at + 1) 0 + 65536 * get_or file (at + 2) 0 + 16777216 * get_or file (at + 3) 0
   unfolding little
-  little_four at = let e : at + 2 ≡ suc (suc at) = omega arith in rw e (omega arith)
+  little_four at =
+      let e : at + 3 ≡ suc (suc (suc at)) = omega arith in
+      let d : at + 2 ≡ suc (suc at) = omega arith in
+      rw (e, d, add-one) (omega arith)
 
   pub length_numbers : (w n at : ℕ) → length (numbers file w n at) ≡ n
   unfolding numbers

@@ -23,9 +23,7 @@ pub fn two_bytes(file: &[u8], at: usize) -> u16
     requires { at + 2 ≤ length file.now }
     ensures { result ≡ little file.now 2 at }
 {
-    let low = file[at] as u16;
-    let high = file[at + 1] as u16;
-    low + 256 * high
+    u16::from_le_bytes([file[at], file[at + 1]])
 }
 
 // The number of four bytes, the least significant first.
@@ -33,27 +31,18 @@ pub fn four_bytes(file: &[u8], at: usize) -> u32
     requires { at + 4 ≤ length file.now }
     ensures { result ≡ little file.now 4 at }
 {
-    let low = two_bytes(file, at) as u32;
-    let high = two_bytes(file, at + 2) as u32;
-    low + 65536 * high
+    u32::from_le_bytes([file[at], file[at + 1], file[at + 2], file[at + 3]])
 }
 
-// A byte as a word.
-fn byte_word(b: u8) -> u32
-    ensures { result ≡ b }
-{
-    b as u32
-}
+// Three loops and not one over a closure that reads a number: each closure would repeat `at + .. ≤ length` and what it reads in clauses of its own.
 
 // Fills `out` with numbers of a byte each, from `at` on.
 pub fn read_bytes(file: &[u8], at: usize, out: &mut [u32])
     requires { at + length out.old ≤ length file.now }
     ensures { out.new ≡ numbers file.now 1 (length out.old) at }
 {
-    let mut i: usize = 0;
-    while i < out.len() {
-        out[i] = byte_word(file[at + i]);
-        i += 1;
+    for i in 0..out.len() {
+        out[i] = u32::from(file[at + i]);
     }
 }
 
@@ -62,10 +51,8 @@ pub fn read_words(file: &[u8], at: usize, out: &mut [u32])
     requires { at + 4 * length out.old ≤ length file.now }
     ensures { out.new ≡ numbers file.now 4 (length out.old) at }
 {
-    let mut i: usize = 0;
-    while i < out.len() {
+    for i in 0..out.len() {
         out[i] = four_bytes(file, at + 4 * i);
-        i += 1;
     }
 }
 
@@ -74,9 +61,7 @@ pub fn read_signed(file: &[u8], at: usize, out: &mut [i32])
     requires { at + 4 * length out.old ≤ length file.now }
     ensures { out.new ≡ map (signed 32) (numbers file.now 4 (length out.old) at) }
 {
-    let mut i: usize = 0;
-    while i < out.len() {
+    for i in 0..out.len() {
         out[i] = words::signed(four_bytes(file, at + 4 * i));
-        i += 1;
     }
 }

@@ -6,6 +6,7 @@ use Rattle.marks.specs.MarkCases.{MarkCases}
 pub mark_cases : MarkCases
 mark_cases =
     record {
+      letters = refl;
       layouts = refl;
       words = refl;
       bytes = refl;

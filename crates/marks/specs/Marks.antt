@@ -1,6 +1,8 @@
 -- A record's two-byte mark, in ASCII, tells its kind.
 -- Assumes nothing.
-use Rattle.std.specs.Prelude.{ℕ, ◌+◌, ◌*◌, Bool, true, false, cond, eqb}
+use Rattle.std.specs.Prelude.{ℕ, zero, suc, ◌+◌, ◌*◌, Bool, true, false, cond, eqb, Option, Some, None}
+use Rattle.contraction.specs.declared.contraction.Operand.{Operand}
+use Rattle.contraction.specs.declared.contraction.Operand.TheVariants.{A, B, C, D}
 use Rattle.marks.specs.declared.marks.Kind.{Kind}
 
 -- the ASCII codes of the tensors' letters
@@ -15,6 +17,12 @@ letter_c = 67
 
 abbrev pub letter_d : ℕ
 letter_d = 68
+
+abbrev pub letter : Operand → ℕ
+letter A = letter_a
+letter B = letter_b
+letter C = letter_c
+letter D = letter_d
 
 -- two letters as a 16-bit number, the first in the low byte
 abbrev pub mark : ℕ → ℕ → ℕ
@@ -36,22 +44,22 @@ go_mark = mark 71 79
 -- the kind that a mark tells; C has no words of a byte each
 abbrev pub kind_of : ℕ → Kind
 kind_of m =
-    cond (eqb m (layout_mark letter_a)) (Kind.Layout letter_a)
-    (cond (eqb m (layout_mark letter_b)) (Kind.Layout letter_b)
-    (cond (eqb m (layout_mark letter_c)) (Kind.Layout letter_c)
-    (cond (eqb m (layout_mark letter_d)) (Kind.Layout letter_d)
-    (cond (eqb m (words_mark letter_a)) (Kind.Words letter_a)
-    (cond (eqb m (words_mark letter_b)) (Kind.Words letter_b)
-    (cond (eqb m (words_mark letter_c)) (Kind.Words letter_c)
-    (cond (eqb m (words_mark letter_d)) (Kind.Words letter_d)
-    (cond (eqb m (bytes_mark letter_a)) (Kind.Bytes letter_a)
-    (cond (eqb m (bytes_mark letter_b)) (Kind.Bytes letter_b)
-    (cond (eqb m (bytes_mark letter_d)) (Kind.Bytes letter_d)
+    cond (eqb m (layout_mark letter_a)) (Kind.Layout A)
+    (cond (eqb m (layout_mark letter_b)) (Kind.Layout B)
+    (cond (eqb m (layout_mark letter_c)) (Kind.Layout C)
+    (cond (eqb m (layout_mark letter_d)) (Kind.Layout D)
+    (cond (eqb m (words_mark letter_a)) (Kind.Words A)
+    (cond (eqb m (words_mark letter_b)) (Kind.Words B)
+    (cond (eqb m (words_mark letter_c)) (Kind.Words C)
+    (cond (eqb m (words_mark letter_d)) (Kind.Words D)
+    (cond (eqb m (bytes_mark letter_a)) (Kind.Bytes A)
+    (cond (eqb m (bytes_mark letter_b)) (Kind.Bytes B)
+    (cond (eqb m (bytes_mark letter_d)) (Kind.Bytes D)
     (cond (eqb m go_mark) Kind.Go Kind.Other)))))))))))
 
 -- is a record of this kind the layout of tensor t?
 abbrev pub is_layout : ℕ → Kind → Bool
-is_layout t (Kind.Layout u) = eqb u t
+is_layout t (Kind.Layout u) = eqb (letter u) t
 is_layout t (Kind.Words u) = false
 is_layout t (Kind.Bytes u) = false
 is_layout t Kind.Go = false
@@ -59,11 +67,16 @@ is_layout t Kind.Other = false
 
 -- how many bytes a word of tensor t has in a record of this kind; 0 where it does not hold that tensor's words
 abbrev pub word_width : ℕ → Kind → ℕ
-word_width t (Kind.Words u) = cond (eqb u t) 4 0
-word_width t (Kind.Bytes u) = cond (eqb u t) 1 0
+word_width t (Kind.Words u) = cond (eqb (letter u) t) 4 0
+word_width t (Kind.Bytes u) = cond (eqb (letter u) t) 1 0
 word_width t (Kind.Layout u) = 0
 word_width t Kind.Go = 0
 word_width t Kind.Other = 0
+
+-- the width as the code answers it: none where it is 0
+abbrev pub known_width : ℕ → Option ℕ
+known_width zero = None
+known_width (suc n) = Some (suc n)
 
 -- is a record of this kind `GO`?
 abbrev pub is_go : Kind → Bool

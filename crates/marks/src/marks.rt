@@ -1,72 +1,62 @@
 ghost use Rattle.std.specs.Prelude.{◌≡◌};
-ghost use Rattle.marks.specs.Marks.{kind_of, is_layout, word_width, is_go};
+ghost use Rattle.marks.specs.Marks.{letter, kind_of, is_layout, word_width, is_go, known_width};
 
-// A record's kind, with the letter of its tensor.
-#[derive(Clone, Copy)]
+use contraction::contraction::Operand;
+
+// A record's kind, with its tensor.
+#[derive(Clone, Copy, PartialEq, Eq)]
 pub enum Kind {
-    Layout(u8),
-    Words(u8),
-    Bytes(u8),
+    Layout(Operand),
+    Words(Operand),
+    Bytes(Operand),
     Go,
     Other,
 }
 
-// A record's kind by its two-byte mark, read as a 16-bit number: the first letter is the low byte.
-pub fn kind_of(mark: u16) -> Kind
-    ensures { result ≡ kind_of mark }
-{
-    match mark {
-        0x414c => Kind::Layout(b'A'), // LA
-        0x424c => Kind::Layout(b'B'), // LB
-        0x434c => Kind::Layout(b'C'), // LC
-        0x444c => Kind::Layout(b'D'), // LD
-        0x4157 => Kind::Words(b'A'), // WA
-        0x4257 => Kind::Words(b'B'), // WB
-        0x4357 => Kind::Words(b'C'), // WC
-        0x4457 => Kind::Words(b'D'), // WD
-        0x4159 => Kind::Bytes(b'A'), // YA
-        0x4259 => Kind::Bytes(b'B'), // YB
-        0x4459 => Kind::Bytes(b'D'), // YD
-        0x4f47 => Kind::Go, // GO
-        _ => Kind::Other,
+impl Kind {
+    // A record's kind by its two-byte mark, read as a 16-bit number: the first letter is the low byte.
+    pub fn of(mark: u16) -> Kind
+        ensures { result ≡ kind_of mark }
+    {
+        match mark {
+            0x414c => Kind::Layout(Operand::A), // LA
+            0x424c => Kind::Layout(Operand::B), // LB
+            0x434c => Kind::Layout(Operand::C), // LC
+            0x444c => Kind::Layout(Operand::D), // LD
+            0x4157 => Kind::Words(Operand::A), // WA
+            0x4257 => Kind::Words(Operand::B), // WB
+            0x4357 => Kind::Words(Operand::C), // WC
+            0x4457 => Kind::Words(Operand::D), // WD
+            0x4159 => Kind::Bytes(Operand::A), // YA
+            0x4259 => Kind::Bytes(Operand::B), // YB
+            0x4459 => Kind::Bytes(Operand::D), // YD
+            0x4f47 => Kind::Go, // GO
+            _ => Kind::Other,
+        }
     }
-}
 
-// Is a record of this kind the layout of the tensor with this letter?
-pub fn is_layout(kind: Kind, letter: u8) -> bool
-    ensures { result ≡ is_layout letter kind }
-{
-    match kind {
-        Kind::Layout(of) => of == letter,
-        Kind::Words(_) => false,
-        Kind::Bytes(_) => false,
-        Kind::Go => false,
-        Kind::Other => false,
+    // Is a record of this kind the layout of this tensor?
+    pub fn is_layout(self, tensor: Operand) -> bool
+        ensures { result ≡ is_layout (letter tensor) self }
+    {
+        self == Kind::Layout(tensor)
     }
-}
 
-// How many bytes a word has in a record of this kind, where it holds the words of the tensor with this letter; 0 where it does not.
-pub fn word_width(kind: Kind, letter: u8) -> usize
-    ensures { result ≡ word_width letter kind }
-{
-    match kind {
-        Kind::Words(of) => { if of == letter { 4 } else { 0 } }
-        Kind::Bytes(of) => { if of == letter { 1 } else { 0 } }
-        Kind::Layout(_) => 0,
-        Kind::Go => 0,
-        Kind::Other => 0,
+    // How many bytes a word has in a record of this kind, where it holds the words of this tensor.
+    pub fn word_width(self, tensor: Operand) -> Option<usize>
+        ensures { result ≡ known_width (word_width (letter tensor) self) }
+    {
+        match self {
+            Kind::Words(of) if of == tensor => Some(4),
+            Kind::Bytes(of) if of == tensor => Some(1),
+            _ => None,
+        }
     }
-}
 
-// Is a record of this kind `GO`?
-pub fn is_go(kind: Kind) -> bool
-    ensures { result ≡ is_go kind }
-{
-    match kind {
-        Kind::Go => true,
-        Kind::Layout(_) => false,
-        Kind::Words(_) => false,
-        Kind::Bytes(_) => false,
-        Kind::Other => false,
+    // Is a record of this kind `GO`?
+    pub fn is_go(self) -> bool
+        ensures { result ≡ is_go self }
+    {
+        self == Kind::Go
     }
 }

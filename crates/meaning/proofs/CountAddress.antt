@@ -16,7 +16,8 @@ use Rattle.layout.specs.Layout.{along}
 use Rattle.labels.specs.Labels.{labels}
 use Rattle.entries.proofs.Stride.{part_of, stride_of_parts}
 use Rattle.entries.proofs.ByLabel.{labels_unique}
-use Rattle.contraction.specs.Operands.{Operand, Shape, together}
+use Rattle.contraction.specs.Operands.{Shape, together}
+use Rattle.contraction.specs.declared.contraction.Operand.{Operand}
 use Rattle.groups.specs.Groups.{Label, label, Group, in_group, labels_where, group}
 use Rattle.offsets.specs.Counts.{offset, offset_in}
 use Rattle.meaning.specs.Index.{assign, at}

@@ -12,7 +12,8 @@ use Rattle.layout.specs.Layout.{axes, address}
 use Rattle.entries.specs.EntryQuestions.{has_entries}
 use Rattle.entries.proofs.Bounds.{in_range_some}
 use Rattle.contraction.specs.declared.contraction.Contraction.{Contraction}
-use Rattle.contraction.specs.Operands.{C, D, tensors}
+use Rattle.contraction.specs.Operands.{named, tensors}
+use Rattle.contraction.specs.declared.contraction.Operand.TheVariants.{C, D}
 use Rattle.questions.proofs.Ready.{AllPassed, accepted_parts}
 use Rattle.groups.specs.Groups.{depth, group, outputs, size}
 use Rattle.meaning.specs.Index.{out_index}
@@ -38,7 +39,7 @@ result_demand2 c w e = passed_demand2 c w (accepted_parts (tensors c) (lengths_i
 module _ (c : Contraction) (w : Slices) (p : AllPassed (tensors c) (lengths_in c w)) where
   -- what a sum starts from
   abbrev start : (ℕ → ℕ) → ℕ
-  start ρ = start_of c.named (entry c w C ρ) (entry c w D ρ)
+  start ρ = start_of (named c) (entry c w C ρ) (entry c w D ρ)
 
   no_sum : size (group (shape_in c) depth) ≡ 0 → (ρ : ℕ → ℕ) → value c w ρ ≡ word 32 (c.beta * start ρ)
   unfolding sum_to

@@ -8,7 +8,8 @@ use lib.Dec.{T, eqb}
 use Rattle.words.specs.Lists.{member}
 use Rattle.points.specs.LabelQuestions.{extents_agree}
 use Rattle.entries.specs.Bounds.{InRange}
-use Rattle.contraction.specs.Operands.{A, B, D, Shape, together}
+use Rattle.contraction.specs.Operands.{Shape, together}
+use Rattle.contraction.specs.declared.contraction.Operand.TheVariants.{A, B, D}
 use Rattle.groups.specs.Groups.{letters, depth, group_by, group_of, group_number, in_group, outputs, size}
 use Rattle.meaning.specs.Index.{out_index}
 use Rattle.meaning.proofs.IndexParts.{Part, Separate, covered, Splits, parts_in_range}

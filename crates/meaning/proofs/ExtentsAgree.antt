@@ -13,7 +13,9 @@ use Rattle.layout.specs.declared.layout.Axis.{Axis}
 use Rattle.layout.specs.Layout.{letters_of}
 use Rattle.labels.specs.Labels.{extent_of}
 use Rattle.points.specs.LabelQuestions.{extents_agree}
-use Rattle.contraction.specs.Operands.{Operand, A, B, C, D, Shape, together}
+use Rattle.contraction.specs.Operands.{Shape, together}
+use Rattle.contraction.specs.declared.contraction.Operand.{Operand}
+use Rattle.contraction.specs.declared.contraction.Operand.TheVariants.{A, B, C, D}
 use Rattle.groups.specs.Groups.{letters}
 
 -- where each axis has the extent that e gives its letter, so does each letter's first

@@ -14,7 +14,8 @@ use Rattle.labels.specs.Labels.{extent_of, labels}
 use Rattle.points.specs.LabelQuestions.{extents_agree}
 use Rattle.entries.specs.Bounds.{InRange}
 use Rattle.entries.proofs.ByLabel.{labels_cover}
-use Rattle.contraction.specs.Operands.{Operand, Shape, together}
+use Rattle.contraction.specs.Operands.{Shape, together}
+use Rattle.contraction.specs.declared.contraction.Operand.{Operand}
 use Rattle.groups.specs.Groups.{Label, label, letters, Group, group_of, group_number, in_group, labels_where, group, size}
 use Rattle.offsets.proofs.Digits.{pos_left, pos_right, div_below}
 use Rattle.meaning.specs.Index.{at}

@@ -19,7 +19,8 @@ use Rattle.layout.proofs.Address.{along_zero}
 use Rattle.labels.specs.Labels.{labels}
 use Rattle.points.specs.LabelQuestions.{extents_agree}
 use Rattle.entries.specs.Bounds.{InRange}
-use Rattle.contraction.specs.Operands.{Operand, Shape, shape, together}
+use Rattle.contraction.specs.Operands.{Shape, shape, together}
+use Rattle.contraction.specs.declared.contraction.Operand.{Operand}
 use Rattle.groups.specs.Groups.{label, letters, labels_where, size}
 use Rattle.offsets.specs.Counts.{offset, offset_in}
 use Rattle.meaning.specs.Index.{at}

@@ -17,7 +17,9 @@ use Rattle.layout.proofs.Address.{address_agree}
 use Rattle.labels.specs.Labels.{extent_of, labels}
 use Rattle.points.specs.LabelQuestions.{extents_agree}
 use Rattle.entries.specs.Bounds.{InRange}
-use Rattle.contraction.specs.Operands.{Operand, D, Shape, shape, together}
+use Rattle.contraction.specs.Operands.{Shape, shape, together}
+use Rattle.contraction.specs.declared.contraction.Operand.{Operand}
+use Rattle.contraction.specs.declared.contraction.Operand.TheVariants.{D}
 use Rattle.groups.specs.Groups.{Label, label, letters, labels_where, outputs, size}
 use Rattle.offsets.proofs.Digits.{lowest, rest}
 use Rattle.meaning.specs.Index.{at, out_index}

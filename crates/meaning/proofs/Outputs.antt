@@ -4,7 +4,8 @@ use mathlib.Core.Path.{◌≡◌, refl, sym, ◌∙◌}
 use mathlib.Core.Bool.{Bool, true, false, true≢false}
 use Prim.Native.Nat.{ℕ}
 use Rattle.words.specs.Lists.{member}
-use Rattle.contraction.specs.Operands.{D, Shape}
+use Rattle.contraction.specs.Operands.{Shape}
+use Rattle.contraction.specs.declared.contraction.Operand.TheVariants.{D}
 use Rattle.groups.specs.Groups.{letters, depth, group_of, in_group}
 use Rattle.meaning.proofs.OwnGroups.{of_own_d, lacks}
 

@@ -15,7 +15,9 @@ use Rattle.layout.specs.declared.layout.Layout.{Layout}
 use Rattle.layout.specs.Layout.{axes, address}
 use Rattle.layout.proofs.Address.{address_agree}
 use Rattle.points.specs.LabelQuestions.{letters_among, letters_same}
-use Rattle.contraction.specs.Operands.{Operand, A, B, C, D, Shape, shape}
+use Rattle.contraction.specs.Operands.{Shape, shape}
+use Rattle.contraction.specs.declared.contraction.Operand.{Operand}
+use Rattle.contraction.specs.declared.contraction.Operand.TheVariants.{A, B, C, D}
 use Rattle.groups.specs.Groups.{letters, Group, batch, row, column, depth, group_by, group_of, group_number, in_group, labels_where}
 use Rattle.meaning.proofs.CountAddress.{at_agrees, where_clear}
 use Rattle.meaning.proofs.IndexParts.{Part, Separate, covered, parts_at, kept_separate, at_parts}

@@ -20,7 +20,9 @@ use Rattle.entries.specs.Bounds.{InRange, Inside}
 use Rattle.entries.proofs.Bounds.{inside_every}
 use Rattle.entries.proofs.StridesApart.{apart_injective}
 use Rattle.contraction.specs.declared.contraction.Contraction.{Contraction}
-use Rattle.contraction.specs.Operands.{Operand, A, B, C, D, tensors, shape, together}
+use Rattle.contraction.specs.Operands.{named, tensors, shape, together}
+use Rattle.contraction.specs.declared.contraction.Operand.{Operand}
+use Rattle.contraction.specs.declared.contraction.Operand.TheVariants.{A, B, C, D}
 use Rattle.groups.specs.Groups.{letters, depth, group, outputs, size}
 use Rattle.meaning.specs.Index.{at, out_index}
 use Rattle.meaning.specs.Meaning.{Slices, shape_in, start_of, entry, value, result}
@@ -91,6 +93,6 @@ module _ (c : Contraction) (w : Slices) where
   term ρ k = entry c w A (at (group (shape_in c) depth) k ρ) * entry c w B (at (group (shape_in c) depth) k ρ)
 
   -- the sum of a value runs over the counts of the depth group
-  pub value_counts : (ρ : ℕ → ℕ) → value c w ρ ≡ word 32 (c.alpha * sum_to (size (group (shape_in c) depth)) (term ρ) + c.beta * start_of c.named (entry c w C ρ) (entry c w D ρ))
+  pub value_counts : (ρ : ℕ → ℕ) → value c w ρ ≡ word 32 (c.alpha * sum_to (size (group (shape_in c) depth)) (term ρ) + c.beta * start_of (named c) (entry c w C ρ) (entry c w D ρ))
   unfolding value
   value_counts ρ = rw (sum_over_is_sum_to (group (shape_in c) depth) (λ σ. entry c w A σ * entry c w B σ) ρ (group_distinct (shape_in c) depth))

@@ -19,7 +19,9 @@ use Rattle.entries.specs.Bounds.{InRange}
 use Rattle.entries.proofs.Bounds.{inside_every}
 use Rattle.entries.proofs.StridesApart.{apart_injective}
 use Rattle.contraction.specs.declared.contraction.Contraction.{Contraction}
-use Rattle.contraction.specs.Operands.{Operand, A, B, C, D, Shape, tensors, together}
+use Rattle.contraction.specs.Operands.{Shape, tensors, together}
+use Rattle.contraction.specs.declared.contraction.Operand.{Operand}
+use Rattle.contraction.specs.declared.contraction.Operand.TheVariants.{A, B, C, D}
 use Rattle.questions.proofs.Ready.{AllPassed}
 use Rattle.groups.specs.Groups.{letters, depth, group, size}
 use Rattle.meaning.specs.Index.{at, out_index}

@@ -6,7 +6,8 @@ use Rattle.layout.specs.Layout.{axes, address}
 use Rattle.entries.specs.EntryQuestions.{has_entries}
 use Rattle.entries.specs.Bounds.{InRange}
 use Rattle.contraction.specs.declared.contraction.Contraction.{Contraction}
-use Rattle.contraction.specs.Operands.{C, D, tensors}
+use Rattle.contraction.specs.Operands.{named, tensors}
+use Rattle.contraction.specs.declared.contraction.Operand.TheVariants.{C, D}
 use Rattle.groups.specs.Groups.{depth, group, size}
 use Rattle.meaning.specs.Meaning.{Slices, shape_in, first_no, start_of, entry, value, result}
 
@@ -24,7 +25,7 @@ ResultMeetsDemand2 = (c : Contraction) (w : Slices) → first_no c w ≡ 0 → D
 pub record EmptyLayers (c : Contraction) (w : Slices) : Type 0 where
   -- "A sum over no values is 0, so D's word becomes beta × old", or beta × C's entry: with depth size 0, every word that D's layout addresses
   pub no_terms : size (group (shape_in c) depth) ≡ 0 → (ρ : ℕ → ℕ) → InRange (axes (tensors c D)) ρ
-      → get_or (result c w) (address (tensors c D) ρ) 0 ≡ word 32 (c.beta * start_of c.named (entry c w C ρ) (entry c w D ρ))
+      → get_or (result c w) (address (tensors c D) ρ) 0 ≡ word 32 (c.beta * start_of (named c) (entry c w C ρ) (entry c w D ρ))
   -- "A tensor with an extent 0 has no entries": where D is such a tensor, no word changes
   pub no_outputs : has_entries (axes (tensors c D)) ≡ false → result c w ≡ w D
 

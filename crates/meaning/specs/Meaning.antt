@@ -5,7 +5,9 @@ use Rattle.words.specs.Words.{word}
 use Rattle.words.specs.Loops.{overwrite}
 use Rattle.layout.specs.Layout.{address}
 use Rattle.contraction.specs.declared.contraction.Contraction.{Contraction}
-use Rattle.contraction.specs.Operands.{Operand, A, B, C, D, Shape, of_tensors, tensors, shape}
+use Rattle.contraction.specs.Operands.{Shape, of_tensors, named, tensors, shape}
+use Rattle.contraction.specs.declared.contraction.Operand.{Operand}
+use Rattle.contraction.specs.declared.contraction.Operand.TheVariants.{A, B, C, D}
 use Rattle.tensor_answers.specs.Asking.{refusal}
 use Rattle.questions.specs.Questions.{layout_questions}
 use Rattle.groups.specs.Groups.{depth, group, outputs, size}
@@ -41,7 +43,7 @@ module _ (c : Contraction) (w : Slices) where
 
   -- alpha × (the sum, over every label that D lacks, of A's entry × B's entry) + beta × C's entry, or the old word where C is not named
   unfoldable pub value : (ℕ → ℕ) → ℕ
-  value ρ = combined c.alpha c.beta (sum_over (group (shape_in c) depth) (λ σ. entry A σ * entry B σ) ρ) (start_of c.named (entry C ρ) (entry D ρ))
+  value ρ = combined c.alpha c.beta (sum_over (group (shape_in c) depth) (λ σ. entry A σ * entry B σ) ρ) (start_of (named c) (entry C ρ) (entry D ρ))
 
 -- D's words afterwards: each output index's value at its address
 unfoldable pub result : Contraction → Slices → List ℕ

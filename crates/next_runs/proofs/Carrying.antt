@@ -4,9 +4,10 @@ use mathlib.Core.Path.{◌≡◌, subst}
 use mathlib.Core.List.{List}
 use Prim.Native.Nat.{ℕ, zero, suc, ◌+◌, ◌<◌}
 use native.Mathlib.Omega.{arith}
-use Rattle.contraction.specs.Operands.{Operand}
+use Rattle.contraction.specs.declared.contraction.Operand.{Operand}
 use Rattle.groups.specs.Groups.{Label}
 use Rattle.offsets.specs.declared.offsets.Offsets.{Offsets}
+use Rattle.odometer.specs.declared.odometer.Row.{Row}
 use Rattle.odometer.specs.Odometer.{Stands, Advanced}
 use Rattle.four_lanes.specs.FourLanes.{of_run}
 use Rattle.next_runs.specs.NextRuns.{Begins, Moved, Ahead}
@@ -19,15 +20,15 @@ same_count g x {digits = digits} {at} e s = subst (λ (n : ℕ). Stands g x n di
 pub one_begins : {g : List Label} {x : Operand → ℕ} {n : ℕ} {at : Offsets} → Begins g x n at → (q : ℕ) → q < 1 → Begins g x (n + q) at
 one_begins {g} {x} b q h = record { digits = b.digits; stands = same_count g x (omega arith) b.stands }
 
-pub moved_none : (count : ℕ) (table digits : List ℕ) (at : Offsets) → Moved 0 count table digits digits at at
-moved_none count table digits at = record { next = λ g x k h t s. same_count g x (omega arith) s }
+pub moved_none : (rows : List Row) (digits : List ℕ) (at : Offsets) → Moved 0 rows digits digits at at
+moved_none rows digits at = record { next = λ g x k h t s. same_count g x (omega arith) s }
 
-pub moved_more : {n count : ℕ} {table old mid new : List ℕ} {from at to : Offsets} → Moved n count table old mid from at → Advanced count table mid new at to
-    → Moved (n + 1) count table old new from to
+pub moved_more : {n : ℕ} {rows : List Row} {old mid new : List ℕ} {from at to : Offsets} → Moved n rows old mid from at → Advanced rows mid new at to
+    → Moved (n + 1) rows old new from to
 moved_more {n} m a = record { next = λ g x k h t s. same_count g x (omega arith) (a.next g x (k + n) (omega arith) t (m.next g x k (omega arith) t s)) }
 
-pub three_ahead : {count : ℕ} {table d₀ d₁ d₂ d₃ : List ℕ} {at second third fourth : Offsets} → Advanced count table d₀ d₁ at second → Advanced count table d₁ d₂ second third
-    → Advanced count table d₂ d₃ third fourth → Ahead count table d₀ (of_run at second third fourth)
+pub three_ahead : {rows : List Row} {d₀ d₁ d₂ d₃ : List ℕ} {at second third fourth : Offsets} → Advanced rows d₀ d₁ at second → Advanced rows d₁ d₂ second third
+    → Advanced rows d₂ d₃ third fourth → Ahead rows d₀ (of_run at second third fourth)
 three_ahead {d₀ = d₀} {d₁} {d₂} {d₃} {at} {second} {third} {fourth} a b c =
     record {
       each = λ g x k h t s.

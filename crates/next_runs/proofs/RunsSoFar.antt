@@ -10,7 +10,8 @@ use native.Mathlib.Omega.{arith}
 use lib.ListN.{length, drop}
 use Rattle.words.specs.Loops.{each}
 use Rattle.words.proofs.Loops.{each_ext, each_add}
-use Rattle.contraction.specs.Operands.{Operand, C, D}
+use Rattle.contraction.specs.declared.contraction.Operand.{Operand}
+use Rattle.contraction.specs.declared.contraction.Operand.TheVariants.{C, D}
 use Rattle.groups.specs.Groups.{Label, size}
 use Rattle.offsets.specs.declared.offsets.Offsets.{Offsets}
 use Rattle.offsets.specs.Offsets.{words_in}

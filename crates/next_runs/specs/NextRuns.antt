@@ -1,11 +1,13 @@
 -- Runs of outputs from one on. Inside contracts only.
 -- Assumes nothing.
-use Rattle.std.specs.Prelude.{ℕ, ◌+◌, ◌*◌, ◌<◌, ◌≤◌, ◌≡◌, Bool, List}
+use Rattle.std.specs.Prelude.{ℕ, ◌+◌, ◌*◌, ◌<◌, ◌≤◌, ◌≡◌, Bool, List, length}
 use Rattle.words.specs.Loops.{each}
-use Rattle.contraction.specs.Operands.{Operand, A, B, D}
+use Rattle.contraction.specs.declared.contraction.Operand.{Operand}
+use Rattle.contraction.specs.declared.contraction.Operand.TheVariants.{A, B, D}
 use Rattle.groups.specs.Groups.{Label, size}
 use Rattle.offsets.specs.declared.offsets.Offsets.{Offsets}
 use Rattle.offsets.specs.Offsets.{words_in}
+use Rattle.odometer.specs.declared.odometer.Row.{Row}
 use Rattle.odometer.specs.Odometer.{last_in, move_in, Tabled, Stands}
 use Rattle.sums.specs.declared.walk.Walk.{Walk}
 use Rattle.sums.specs.Walk.{places, over, Walks}
@@ -18,12 +20,12 @@ runs_filled named alpha beta base output depth a b c m r =
 
 -- where it pays to look for four runs that share what is read of A: not for a few outputs of a run or depth counts, where A goes word by word along a run and B
 -- stands still, and where the label behind the run's has four values at least and A stands still along it. A guess: it changes times only
-pub record SuitsFour (step : Offsets) (len deep : ℕ) (rows : List ℕ) (labels : ℕ) : Type 0 where
+pub record SuitsFour (step : Offsets) (len deep : ℕ) (rows : List Row) : Type 0 where
   pub outputs : 8 ≤ len
   pub depths : 4 ≤ deep
   pub along : words_in step A ≡ 1
   pub still : words_in step B ≡ 0
-  pub behind : 1 ≤ labels
+  pub behind : 1 ≤ length rows
   pub values : 3 ≤ last_in rows 0
   pub same : move_in rows 0 A ≡ 0
 
@@ -47,11 +49,11 @@ pub record Begins (g : List Label) (x : Operand → ℕ) (n : ℕ) (at : Offsets
   pub digits : List ℕ
   pub stands : Stands g x n digits at
 
--- whatever labels the table is of, and wherever count 0 was: from the digits and address words of a count to those of the n-th after it
-pub record Moved (n count : ℕ) (table old new : List ℕ) (at to : Offsets) : Type 0 where
-  pub next : (g : List Label) (x : Operand → ℕ) (k : ℕ) → k + n < size g → Tabled g count table → Stands g x k old at → Stands g x (k + n) new to
+-- whatever labels the rows are of, and wherever count 0 was: from the digits and address words of a count to those of the n-th after it
+pub record Moved (n : ℕ) (rows : List Row) (old new : List ℕ) (at to : Offsets) : Type 0 where
+  pub next : (g : List Label) (x : Operand → ℕ) (k : ℕ) → k + n < size g → Tabled g rows → Stands g x k old at → Stands g x (k + n) new to
 
 -- and from those of a count to the address words of the three after it
-pub record Ahead (count : ℕ) (table digits : List ℕ) (to : ℕ → Offsets) : Type 0 where
-  pub each : (g : List Label) (x : Operand → ℕ) (k : ℕ) → k + 3 < size g → Tabled g count table → Stands g x k digits (to 0)
+pub record Ahead (rows : List Row) (digits : List ℕ) (to : ℕ → Offsets) : Type 0 where
+  pub each : (g : List Label) (x : Operand → ℕ) (k : ℕ) → k + 3 < size g → Tabled g rows → Stands g x k digits (to 0)
       → (q : ℕ) → q < 4 → Begins g x (k + q) (to q)

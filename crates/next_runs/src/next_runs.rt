@@ -1,128 +1,113 @@
-ghost use Rattle.std.specs.Prelude.{◌≡◌, true, ◌+◌, ◌*◌, ◌<◌, ◌≤◌, length, drop};
+ghost use Rattle.std.specs.Prelude.{◌≡◌, true, ◌+◌, ◌*◌, ◌<◌, ◌≤◌, length, drop, IfSome};
 ghost use Rattle.limits.specs.Limits.{labels_limit};
 ghost use Rattle.offsets.specs.Offsets.{words_in};
-ghost use Rattle.odometer.specs.Odometer.{Stands, Rows};
+ghost use Rattle.odometer.specs.Odometer.{Stands};
 ghost use Rattle.sums.specs.Walk.{over};
-ghost use Rattle.four_lanes.specs.FourLanes.{of_run};
-ghost use Rattle.four_sums.specs.FourRunSums.{Shared};
+ghost use Rattle.four_sums.specs.FourRunSums.{begins_of, Shared};
 ghost use Rattle.next_runs.specs.NextRuns.{runs_filled, SuitsFour, Fillable, Moved, Ahead};
 
-use contraction::contraction::Contraction;
-use four_runs::four_runs::{NextRuns, fill_four, shares};
+use contraction::contraction::Operand;
+use four_runs::four_runs::{fill_four, shares};
+use four_sums::four_sums::NextRuns;
 use limits::limits::Limits;
-use odometer::odometer::advance;
+use odometer::odometer::{Row, advance};
 use offsets::offsets::Offsets;
+use output_words::output::Sources;
 use outputs::outputs::fill_outputs;
-use sums::walk::Walk;
+use sums::tabled::TabledWalk;
+use sums::walk::Run;
 
 // Does it pay to look for four runs that share what is read of A? Not for a few outputs or depth counts, and not where A goes along with the second label.
-pub fn suits_four(step: Offsets, len: u32, deep: u32, rows: &[u64], labels: usize) -> bool
-    requires { 5 * labels ≤ length rows.now }
-    ensures { (result ≡ true → SuitsFour step len deep rows.now labels)
-        × (SuitsFour step len deep rows.now labels → result ≡ true) }
+pub fn suits_four(step: Offsets, len: u32, deep: u32, rows: &[Row]) -> bool
+    ensures { (result ≡ true → SuitsFour step len deep rows.now)
+        × (SuitsFour step len deep rows.now → result ≡ true) }
 {
-    if labels == 0 {
+    if rows.is_empty() {
         return false;
     }
-    let along = (step.words[Contraction::A] == 1) & (step.words[Contraction::B] == 0);
-    let second = (rows[0] > 2) & (rows[1] == 0);
+    let along = (step.of(Operand::A) == 1) & (step.of(Operand::B) == 0);
+    let second = (rows[0].last > 2) & (rows[0].moves.of(Operand::A) == 0);
     (len > 7) & (deep > 3) & along & second
 }
 
-// Where the three runs after the one at `at` begin, and whether they share with it what is read of A. That is asked where it pays and so many runs are left.
+// Where the three runs after a run begin, if they share with it what is read of A. That is asked where it pays and so many runs are left.
 fn look_ahead(
     fours: bool,
     left: u32,
-    at: Offsets,
-    step: Offsets,
+    run: Run,
     digits: [u64; Limits::LABELS],
-    rows: &[u64],
-    labels: usize,
-) -> NextRuns
-    requires { (length digits ≡ labels_limit) × (labels ≤ labels_limit) × (5 * labels ≤ length rows.now) }
-    ensures { result.shared ≡ true
-        → (3 < left)
-        × Shared (of_run at result.second result.third result.fourth) step
-        × Ahead labels rows.now digits (of_run at result.second result.third result.fourth) }
+    rows: &[Row],
+) -> Option<NextRuns>
+    requires { (length digits ≡ labels_limit) × (length rows.now ≤ labels_limit) }
+    ensures { IfSome result
+        (λ next. (3 < left) × Shared (begins_of run next) run.step × Ahead rows.now digits (begins_of run next)) }
 {
     if fours {
         if left > 3 {
             let mut ahead = digits;
-            let second = advance(at, &mut ahead, rows, labels);
-            let third = advance(second, &mut ahead, rows, labels);
-            let fourth = advance(third, &mut ahead, rows, labels);
-            let shared = shares(step, at, second, third, fourth);
-            return NextRuns {
+            let second = advance(run.from, &mut ahead, rows);
+            let third = advance(second, &mut ahead, rows);
+            let fourth = advance(third, &mut ahead, rows);
+            let next = NextRuns {
                 second,
                 third,
                 fourth,
-                shared,
             };
+            if shares(run, next) {
+                return Some(next);
+            }
         }
     }
-    NextRuns {
-        second: at,
-        third: at,
-        fourth: at,
-        shared: false,
-    }
+    None
 }
 
 // The words of D of run m, or of run m and the next three where these share what is read of A. Answers how many runs it filled.
 pub fn fill_next(
-    a: &[u32],
-    b: &[u32],
-    c: &[u32],
+    x: &Sources,
     d: &mut [u32],
-    named: bool,
-    alpha: u32,
-    beta: u32,
     base: Offsets,
-    output: Walk,
-    depth: Walk,
+    output: &TabledWalk,
+    depth: &TabledWalk,
     at: Offsets,
     m: u32,
     digits: [u64; Limits::LABELS],
-    rows: &[u64],
-    labels: usize,
-    table: &[u64],
-    count: usize,
     fours: bool,
 ) -> u32
-    requires { Fillable named base output depth a.now b.now c.now (length d.old)
-        × Rows (over output) labels rows.now
-        × Rows (over depth) count table.now
+    requires { Fillable x.now.named base output.now.walk depth.now.walk x.now.a.now x.now.b.now x.now.c.now (length d.old)
         × (length digits ≡ labels_limit)
-        × (m < output.runs)
-        × Stands (drop 1 (over output)) (words_in base) m digits at }
+        × (m < output.now.walk.runs)
+        × Stands (drop 1 (over output.now.walk)) (words_in base) m digits at }
     ensures { (1 ≤ result)
-        × (m + result ≤ output.runs)
-        × (d.new ≡ runs_filled named alpha beta base output depth a.now b.now c.now m result d.old) }
+        × (m + result ≤ output.now.walk.runs)
+        × (d.new
+        ≡ runs_filled x.now.named x.now.alpha x.now.beta base output.now.walk depth.now.walk x.now.a.now x.now.b.now x.now.c.now
+        m result d.old) }
 {
-    let step = output.step;
-    let next = look_ahead(fours, output.runs - m, at, step, digits, rows, labels);
-    if next.shared {
-        fill_four(
-            a, b, c, d, named, alpha, beta, at, next, step, output.len, depth, table, count,
-        );
-        return 4;
+    let run = Run {
+        from: at,
+        step: output.walk.step,
+        len: output.walk.len,
+    };
+    match look_ahead(fours, output.walk.runs - m, run, digits, output.rows) {
+        Some(next) => {
+            fill_four(x, d, run, next, depth);
+            4
+        }
+        None => {
+            fill_outputs(x, d, run, depth);
+            1
+        }
     }
-    fill_outputs(
-        a, b, c, d, named, alpha, beta, at, step, output.len, depth, table, count,
-    );
-    1
 }
 
 // From the digits and address words of a run to those of the n-th after it.
-pub fn advance_by(from: Offsets, digits: &mut [u64], rows: &[u64], labels: usize, n: u32) -> Offsets
-    requires { (labels ≤ length digits.old) × (5 * labels ≤ length rows.now) }
-    ensures { Moved n labels rows.now digits.old digits.new from result }
+pub fn advance_by(from: Offsets, digits: &mut [u64], rows: &[Row], n: u32) -> Offsets
+    requires { length rows.now ≤ length digits.old }
+    ensures { Moved n rows.now digits.old digits.new from result }
 {
     let mut at = from;
-    let mut i: u32 = 0;
-    while i < n {
-        at = advance(at, digits, rows, labels);
-        i += 1;
+    for _i in 0..n {
+        at = advance(at, digits, rows);
     }
     at
 }

@@ -3,19 +3,25 @@
 use mathlib.Core.Path.{◌≡◌, ap, ◌∙◌}
 use mathlib.Core.List.{List}
 use Prim.Native.Nat.{ℕ}
+use Rattle.std.specs.Prelude.{Result}
+use Rattle.refusals.specs.declared.refusal.Refusal.{Refusal}
+use Rattle.refusals.specs.Numbers.{status}
 use Rattle.contraction.specs.declared.contraction.Contraction.{Contraction}
 use Rattle.contraction.specs.Operands.{four, three}
 use Rattle.meaning.specs.Meaning.{Slices}
 use Rattle.tiles.specs.declared.grid.Sizes.{Sizes}
-use Rattle.answers.specs.declared.plain_answer.Outcome.{Outcome as PlainOutcome}
-use Rattle.answers.specs.declared.tile_answer.Outcome.{Outcome as TileOutcome}
-use Rattle.answers.specs.declared.state_answer.Found.{Found}
+use Rattle.tiles.specs.declared.grid.State.{State}
+use Rattle.answers.specs.declared.tile_answer.Ran.{Ran}
+use Rattle.answers.specs.declared.delay_answer.Found.{Found}
 use Rattle.answers.specs.PlainAnswer.{plain_answer, PlainCall, plain_call_of}
 use Rattle.answers.specs.TileAnswer.{tile_answer, done_in, TileCall, tile_call_of}
 use Rattle.answers.specs.StateAnswer.{StateAnswer, state_answer}
-use Rattle.answers.specs.FlatPlain.{plain_status, returned, flat}
-use Rattle.answers.specs.FlatTiles.{tile_status, said_complete, tiles_returned, flat_tiles}
-use Rattle.answers.specs.FlatState.{state_status, state_after, state_returned, flat_state}
+use Rattle.answers.specs.DelayAnswer.{delay_answer}
+use Rattle.answers.specs.FlatPlain.{returned, flat}
+use Rattle.answers.specs.FlatTiles.{said_complete, tiles_returned, flat_tiles}
+use Rattle.answers.specs.FlatState.{state_after, state_returned, flat_state}
+use Rattle.answers.specs.FlatDelay.{delay_status}
+use Rattle.answers.proofs.Statuses.{plain_number, tile_number, state_number, delay_number}
 use Rattle.flat.specs.FlatLayout.{flat_layout, flat_contraction}
 use Rattle.plain.specs.PlainCall.{plain_call}
 use Rattle.plain.proofs.PlainWithoutC.{plain_without_c}
@@ -24,19 +30,23 @@ use Rattle.tiled.proofs.TilesWithoutC.{tiles_without_c}
 
 -- ---- the answer as numbers
 
-pub plain_handed : (o : PlainOutcome) {r : ℕ} {last : List ℕ} {was call : PlainCall} → r ≡ plain_status (plain_answer o)
+pub plain_handed : (o : Result (Unit {0}) Refusal) {r : ℕ} {last : List ℕ} {was call : PlainCall} → r ≡ status o
     → plain_call_of (plain_answer o) last ≡ was → was ≡ call → returned r last ≡ flat call
-plain_handed o {last = last} r g e = ap (λ (n : ℕ). returned n last) r ∙ ap flat (g ∙ e)
+plain_handed o {last = last} r g e = ap (λ (n : ℕ). returned n last) (r ∙ plain_number o) ∙ ap flat (g ∙ e)
 
-pub tiles_handed : (o : TileOutcome) {r done complete : ℕ} {words last : List ℕ} {was call : TileCall}
-    → r ≡ tile_status (tile_answer o) → done ≡ done_in (tile_answer o) → complete ≡ said_complete (tile_answer o)
-    → tile_call_of (tile_answer o) words last ≡ was → was ≡ call → tiles_returned r done complete words last ≡ flat_tiles call
-tiles_handed o {words = words} {last = last} r d f g e = (λ i. tiles_returned (r i) (d i) (f i) words last) ∙ ap flat_tiles (g ∙ e)
+pub tiles_handed : (given : ℕ) (o : Result Ran Refusal) {r done complete : ℕ} {words last : List ℕ} {was call : TileCall}
+    → r ≡ status o → done ≡ done_in (tile_answer given o) → complete ≡ said_complete (tile_answer given o)
+    → tile_call_of (tile_answer given o) words last ≡ was → was ≡ call → tiles_returned r done complete words last ≡ flat_tiles call
+tiles_handed given o {words = words} {last = last} r d f g e =
+    (λ i. tiles_returned ((r ∙ tile_number given o) i) (d i) (f i) words last) ∙ ap flat_tiles (g ∙ e)
 
-pub state_handed : (x : Found) (before : ℕ) {r last : ℕ} {was answer : StateAnswer}
-    → r ≡ state_status (state_answer x) → last ≡ state_after (state_answer x) before → state_answer x ≡ was → was ≡ answer
+pub state_handed : (x : Result State Refusal) (before : ℕ) {r last : ℕ} {was answer : StateAnswer}
+    → r ≡ status x → last ≡ state_after (state_answer x) before → state_answer x ≡ was → was ≡ answer
     → state_returned r last ≡ flat_state before answer
-state_handed x before r s g e = (λ k. state_returned (r k) (s k)) ∙ ap (flat_state before) (g ∙ e)
+state_handed x before r s g e = (λ k. state_returned ((r ∙ state_number x) k) (s k)) ∙ ap (flat_state before) (g ∙ e)
+
+pub delay_handed : (x : Result Found Refusal) → status x ≡ delay_status (delay_answer x)
+delay_handed x = delay_number x
 
 -- ---- the contraction that was made is the one handed in; without C, any words may stand in its place
 

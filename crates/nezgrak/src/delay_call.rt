@@ -2,11 +2,13 @@ ghost use Rattle.std.specs.Prelude.{◌≡◌};
 ghost use Rattle.answers.specs.FlatDelay.{delay_returned, flat_delay};
 ghost use Rattle.scores.specs.DelayCall.{delay_call};
 
-use answers::delay_answer::{lag_after, score_after, status_of};
+use answers::delay_answer::{lag_after, score_after};
+use answers::status::status_of;
 use delay::call::delay;
 
 // The delay between two recordings: the lag from 0 to the greatest with the greatest score, the smallest such lag on a tie, and the score. Samples are words
 // read as signed.
+#[tactic(auto, using(crate::proofs::Handed::delay_handed))]
 #[unsafe(no_mangle)]
 pub extern "C" fn nezgrak_delay(
     x: &[u32],

@@ -4,7 +4,7 @@ ghost use Rattle.plain.specs.PlainCall.{plain_call};
 ghost use Rattle.answers.specs.FlatPlain.{returned, flat};
 ghost use Rattle.flat.specs.FlatLayout.{flat_contraction};
 
-use answers::plain_answer::status_of;
+use answers::status::status_of;
 use flat::contraction_of::contraction_of;
 use plain::call::contract;
 

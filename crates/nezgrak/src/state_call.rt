@@ -5,7 +5,8 @@ ghost use Rattle.answers.specs.FlatTiles.{sizes_of};
 ghost use Rattle.flat.specs.FlatLayout.{flat_contraction};
 ghost use Rattle.answers.specs.FlatState.{state_returned, flat_state};
 
-use answers::state_answer::{state_after, status_of};
+use answers::state_answer::state_after;
+use answers::status::status_of;
 use flat::contraction_of::contraction_of;
 use tiled::call::state as state_of;
 use tiles::grid::Sizes;

@@ -4,7 +4,8 @@ ghost use Rattle.tiled.specs.TileCall.{tile_call};
 ghost use Rattle.flat.specs.FlatLayout.{flat_contraction};
 ghost use Rattle.answers.specs.FlatTiles.{sizes_of, tiles_returned, flat_tiles};
 
-use answers::tile_answer::{complete_of, done_of, status_of};
+use answers::status::status_of;
+use answers::tile_answer::{complete_of, done_of};
 use flat::contraction_of::contraction_of;
 use tiled::call::run;
 use tiles::grid::Sizes;
@@ -40,7 +41,7 @@ pub extern "C" fn nezgrak_run_tiles(
     let k = contraction_of(a_layout, b_layout, d_layout, alpha, beta);
     let z = Sizes { rows, cols, depth };
     let outcome = run(k, z, a, b, a, d, work, done, budget);
-    *done_after = done_of(outcome);
+    *done_after = done_of(outcome, done);
     *complete = complete_of(outcome);
     status_of(outcome)
 }

@@ -7,9 +7,9 @@ ghost use Rattle.answers.specs.FlatPlain.{returned, flat};
 ghost use Rattle.answers.specs.FlatTiles.{sizes_of, tiles_returned, flat_tiles};
 ghost use Rattle.answers.specs.FlatState.{state_returned, flat_state};
 
-use answers::plain_answer::status_of;
-use answers::state_answer::{state_after, status_of as state_status_of};
-use answers::tile_answer::{complete_of, done_of, status_of as tile_status_of};
+use answers::state_answer::state_after;
+use answers::status::status_of;
+use answers::tile_answer::{complete_of, done_of};
 use flat::contraction_of::contraction_with_c;
 use plain::call::contract;
 use tiled::call::{run, state as state_of};
@@ -70,9 +70,9 @@ pub extern "C" fn nezgrak_run_tiles_with_c(
     let k = contraction_with_c(a_layout, b_layout, c_layout, d_layout, alpha, beta);
     let z = Sizes { rows, cols, depth };
     let outcome = run(k, z, a, b, c, d, work, done, budget);
-    *done_after = done_of(outcome);
+    *done_after = done_of(outcome, done);
     *complete = complete_of(outcome);
-    tile_status_of(outcome)
+    status_of(outcome)
 }
 
 // The state of the output index of a batch, a row and a column count after `done` tiles of a contraction with C.
@@ -108,5 +108,5 @@ pub extern "C" fn nezgrak_state_with_c(
     let z = Sizes { rows, cols, depth };
     let found = state_of(k, z, a, b, c, d, done, batch, row, column);
     *state = state_after(found, *state);
-    state_status_of(found)
+    status_of(found)
 }

@@ -41,6 +41,7 @@ fn load<R: Read>(from: &mut R, buf: &mut [u8]) -> io::Result<usize>
         (λ bytes. take n buf.new ≡ take (length buf.new) bytes)) }
 {
     let mut at: usize = 0;
+    // Stays a while: a turn goes on by as many bytes as the read gave; a for has no such step.
     while at < buf.len() {
         let more = read_on(from, buf, at)?;
         if more == 0 {
@@ -91,6 +92,7 @@ fn say<E: Print>(errors: &E, what: &[u8], why: io::Error) {
     }
 }
 
+// No Display of a Fault: what is said first is the file's name, which the fault does not hold.
 fn say_fault<E: Print>(errors: &E, name: &[u8], answered: Result<(), Fault>) {
     match answered {
         Ok(()) => {}

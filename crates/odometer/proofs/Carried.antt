@@ -6,7 +6,7 @@ use native.Mathlib.Decide.{dec_lt}
 use lib.ListN.{get_or-replicate}
 use Rattle.words.specs.Words.{word, word_of}
 use Rattle.limits.specs.Limits.{labels_limit}
-use Rattle.contraction.specs.Operands.{Operand}
+use Rattle.contraction.specs.declared.contraction.Operand.{Operand}
 use Rattle.contraction.specs.TensorPlaces.{operand_number}
 use Rattle.groups.specs.Groups.{Label, size}
 use Rattle.offsets.specs.Counts.{offset_in}

@@ -1,4 +1,3 @@
 pub mod Carried
 pub mod CarriedCases
-pub mod LabelsBehind
 pub mod NextCount

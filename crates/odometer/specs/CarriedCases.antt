@@ -2,7 +2,7 @@
 -- Assumes nothing.
 use Rattle.std.specs.Prelude.{◌≡◌, List, [], ◌∷◌, ℤ, pos, negsuc}
 use Rattle.words.specs.Lists.{tabulate}
-use Rattle.contraction.specs.Operands.{C}
+use Rattle.contraction.specs.declared.contraction.Operand.TheVariants.{C}
 use Rattle.groups.specs.Groups.{Label}
 use Rattle.odometer.specs.Carried.{digits, rising, carried}
 

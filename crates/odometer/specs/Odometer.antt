@@ -1,37 +1,35 @@
--- The odometer as the code holds it: a table of moves, digits and address words. Inside contracts only.
+-- The odometer as the code holds it: a row for each label, digits and address words. Inside contracts only.
 -- Assumes nothing.
-use Rattle.std.specs.Prelude.{◌≡◌, ℕ, ◌+◌, ◌-◌, ◌*◌, ◌^◌, ◌<◌, ◌≤◌, List, map, length, drop, slice_index}
-use Rattle.words.specs.Words.{word}
+use Rattle.std.specs.Prelude.{◌≡◌, ℕ, ◌+◌, ◌-◌, ◌<◌, ◌≤◌, List, [], map, length, drop, slice_index, slice_index_or}
 use Rattle.limits.specs.Limits.{labels_limit}
-use Rattle.contraction.specs.Operands.{Operand}
-use Rattle.contraction.specs.TensorPlaces.{operand_number}
+use Rattle.contraction.specs.declared.contraction.Operand.{Operand}
 use Rattle.groups.specs.Groups.{Label, size}
 use Rattle.offsets.specs.declared.offsets.Offsets.{Offsets}
 use Rattle.offsets.specs.Offsets.{words_in}
+use Rattle.odometer.specs.declared.odometer.Row.{Row}
 use Rattle.odometer.specs.Carried.{digits, move, carried}
 
--- a row of five words for each label: its last value, and how far each tensor moves when it goes up
-abbrev pub last_in : List ℕ → ℕ → ℕ
-last_in table i = slice_index table (5 * i)
+-- what an array holds where there is no row
+abbrev pub no_row : Row
+no_row = record { last = 0; moves = record { words = [] } }
 
-abbrev pub move_in : List ℕ → ℕ → Operand → ℕ
-move_in table i o = slice_index table (5 * i + 1 + operand_number o)
+-- a row for each label: its last value, and how far each tensor moves when it goes up
+abbrev pub last_in : List Row → ℕ → ℕ
+last_in rows i = (slice_index_or rows i no_row).last
 
--- the words of a table that has room for the rows of all labels of a contraction
-abbrev pub table_words : ℕ
-table_words = 5 * labels_limit
+abbrev pub move_in : List Row → ℕ → Operand → ℕ
+move_in rows i o = words_in (slice_index_or rows i no_row).moves o
 
--- the table has the rows of the labels of g
-pub record Tabled (g : List Label) (count : ℕ) (table : List ℕ) : Type 0 where
-  pub rows : count ≡ length g
-  pub last : (i : ℕ) → i < count → last_in table i ≡ slice_index (map (λ l. l.extent) g) i - 1
-  pub moves : (i : ℕ) → i < count → (o : Operand) → move_in table i o ≡ move o g i
+-- the rows are those of the labels of g
+pub record Tabled (g : List Label) (table : List Row) : Type 0 where
+  pub rows : length table ≡ length g
+  pub last : (i : ℕ) → i < length g → last_in table i ≡ slice_index (map (λ l. l.extent) g) i - 1
+  pub moves : (i : ℕ) → i < length g → (o : Operand) → move_in table i o ≡ move o g i
 
--- a group is walked in runs of its first label: the table of the labels behind that one, by which the runs' first places are carried along
-pub record Rows (g : List Label) (count : ℕ) (table : List ℕ) : Type 0 where
-  pub few : count ≤ labels_limit
-  pub room : 5 * count ≤ length table
-  pub tabled : Tabled (drop 1 g) count table
+-- a group is walked in runs of its first label: the rows of the labels behind that one, by which the runs' first places are carried along
+pub record Rows (g : List Label) (table : List Row) : Type 0 where
+  pub few : length table ≤ labels_limit
+  pub tabled : Tabled (drop 1 g) table
 
 -- the digits and the address words are those of count n of the labels of g, carried along from the words x of count 0
 pub record Stands (g : List Label) (x : Operand → ℕ) (n : ℕ) (array : List ℕ) (at : Offsets) : Type 0 where
@@ -48,16 +46,6 @@ pub record Turned (count : ℕ) (last old new : ℕ → ℕ) (r : ℕ) : Type 0 
   pub up : r < count → new r ≡ old r + 1
   pub others : (i : ℕ) → r < i → new i ≡ old i
 
--- whatever labels the table is of, and wherever count 0 was: from the digits and address words of a count to those of the next
-pub record Advanced (count : ℕ) (table old new : List ℕ) (at to : Offsets) : Type 0 where
-  pub next : (g : List Label) (x : Operand → ℕ) (n : ℕ) → n + 1 < size g → Tabled g count table → Stands g x n old at → Stands g x (n + 1) new to
-
--- the words of a step less those that have gone
-abbrev pub less_gone : Offsets → Offsets → Operand → ℕ
-less_gone step gone o = word 64 (words_in step o + (2 ^ 64 - words_in gone o))
-
--- row i is set, the words before it are as they were
-pub record RowSet (i value : ℕ) (by : Operand → ℕ) (old new : List ℕ) : Type 0 where
-  pub last : last_in new i ≡ value
-  pub moves : (o : Operand) → move_in new i o ≡ by o
-  pub others : (k : ℕ) → k < 5 * i → slice_index new k ≡ slice_index old k
+-- whatever labels the rows are of, and wherever count 0 was: from the digits and address words of a count to those of the next
+pub record Advanced (rows : List Row) (old new : List ℕ) (at to : Offsets) : Type 0 where
+  pub next : (g : List Label) (x : Operand → ℕ) (n : ℕ) → n + 1 < size g → Tabled g rows → Stands g x n old at → Stands g x (n + 1) new to

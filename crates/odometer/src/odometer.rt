@@ -1,72 +1,57 @@
-ghost use Rattle.std.specs.Prelude.{◌≡◌, ◌+◌, ◌-◌, ◌*◌, ◌≤◌, length, slice_index};
+ghost use Rattle.std.specs.Prelude.{◌≡◌, ◌-◌, ◌≤◌, length, map, take, slice_index};
 ghost use Rattle.limits.specs.Limits.{labels_limit};
-ghost use Rattle.groups.specs.Held.{labels_in};
-ghost use Rattle.offsets.specs.Offsets.{words_in, Words};
-ghost use Rattle.odometer.specs.Odometer.{table_words, last_in, move_in, less_gone, Turned, Advanced, RowSet, Rows};
+ghost use Rattle.groups.specs.Held.{as_label, labels_in};
+ghost use Rattle.offsets.specs.Offsets.{Words};
+ghost use Rattle.odometer.specs.Odometer.{last_in, Tabled, Turned, Advanced, Rows};
 
-use contraction::contraction::Contraction;
-use groups::groups::Group;
+use groups::groups::{Dim, Group};
 use offsets::offsets::Offsets;
 
+// A label's row in a table: its last value, and how far each tensor moves when it goes up, by its step less how far the labels before it have gone.
+#[derive(Clone, Copy)]
+pub struct Row {
+    pub last: u64,
+    pub moves: Offsets,
+}
+
+impl Row {
+    // The row of no label.
+    pub fn none() -> Row
+        ensures { (result.last ≡ 0) × Words result.moves (λ o. 0) }
+    {
+        let moves = Offsets::none();
+        Row { last: 0, moves }
+    }
+}
+
 // The digits of the next count: the first label below its last value goes up, and those before it go back to 0. Answers the place of that label, or
-// `count` where there is none.
-fn turn(digits: &mut [u64], table: &[u64], count: usize) -> usize
-    requires { (count ≤ length digits.old) × (5 * count ≤ length table.now) }
-    ensures { Turned count (last_in table.now)
+// the number of rows where there is none.
+fn turn(digits: &mut [u64], rows: &[Row]) -> usize
+    requires { length rows.now ≤ length digits.old }
+    ensures { Turned (length rows.now) (last_in rows.now)
         (λ i. slice_index digits.old i) (λ i. slice_index digits.new i) result }
 {
-    let mut i: usize = 0;
-    while i < count {
+    for i in 0..rows.len() {
         let v = digits[i];
-        if v < table[5 * i] {
+        if v < rows[i].last {
             digits[i] = v + 1;
             return i;
         }
         digits[i] = 0;
-        i += 1;
     }
-    i
-}
-
-// Each tensor's address word moved as far as it goes when the label at place i goes up.
-fn moved_at(at: Offsets, table: &[u64], i: usize) -> Offsets
-    requires { 5 * i + 5 ≤ length table.now }
-    ensures { Words result (λ o. words_in at o + move_in table.now i o) }
-{
-    let moves = 5 * i + 1;
-    let mut words = [0u64; Contraction::TENSORS];
-    let mut o: usize = 0;
-    while o < Contraction::TENSORS {
-        words[o] = std::num::wrapping_add_u64(at.words[o], table[moves + o]);
-        o += 1;
-    }
-    Offsets { words }
+    rows.len()
 }
 
 // From the digits and address words of a count to those of the next: no product, no quotient, one sum for each tensor.
-pub fn advance(at: Offsets, digits: &mut [u64], table: &[u64], count: usize) -> Offsets
-    requires { (count ≤ length digits.old) × (5 * count ≤ length table.now) }
-    ensures { Advanced count table.now digits.old digits.new at result }
+pub fn advance(at: Offsets, digits: &mut [u64], rows: &[Row]) -> Offsets
+    requires { length rows.now ≤ length digits.old }
+    ensures { Advanced rows.now digits.old digits.new at result }
 {
-    let i = turn(digits, table, count);
-    if i < count {
-        moved_at(at, table, i)
+    let i = turn(digits, rows);
+    if i < rows.len() {
+        at.plus(rows[i].moves)
     } else {
         at
-    }
-}
-
-// Row i: the last value of its label, and how far each tensor moves when it goes up, by its step less how far the labels before it have gone.
-fn set_row(table: &mut [u64], i: usize, last: u32, step: Offsets, gone: Offsets)
-    requires { 5 * i + 5 ≤ length table.old }
-    ensures { RowSet i last (less_gone step gone) table.old table.new }
-{
-    table[5 * i] = last as u64;
-    let moves = 5 * i + 1;
-    let mut tensor: usize = 0;
-    while tensor < Contraction::TENSORS {
-        table[moves + tensor] = std::num::wrapping_sub_u64(step.words[tensor], gone.words[tensor]);
-        tensor += 1;
     }
 }
 
@@ -74,34 +59,36 @@ fn set_row(table: &mut [u64], i: usize, last: u32, step: Offsets, gone: Offsets)
 fn last_value(extent: u32) -> u32
     ensures { result ≡ extent - 1 }
 {
-    if extent == 0 { 0 } else { extent - 1 }
+    extent.saturating_sub(1)
 }
 
-// The rows of the labels behind a group's first one. Answers how many there are.
-fn set_rows(g: Group, table: &mut [u64]) -> usize
-    requires { (g.count ≤ labels_limit) × (table_words ≤ length table.old) }
-    ensures { Rows (labels_in g) result table.new }
+// The rows of labels, one behind the other.
+fn set_rows(labels: &[Dim], rows: &mut [Row])
+    requires { length labels.now ≤ length rows.old }
+    ensures { Tabled (map as_label labels.now) (take (length labels.now) rows.new) }
 {
-    let count = g.count;
     let mut gone = Offsets::none();
-    let mut rows: usize = 0;
-    while rows + 1 < count {
-        let l = g.dims[rows + 1];
+    for (i, l) in labels.iter().enumerate() {
         let last = last_value(l.extent);
-        set_row(table, rows, last, Offsets::along(l, 1), gone);
-        gone = gone.plus(Offsets::along(l, last));
-        rows += 1;
+        let moves = Offsets::along(*l, 1).minus(gone);
+        rows[i] = Row {
+            last: u64::from(last),
+            moves,
+        };
+        gone = gone.plus(Offsets::along(*l, last));
     }
-    rows
 }
 
-// The same. A group of one label has no row, and is not copied for it.
-pub fn tabulate(g: Group, table: &mut [u64]) -> usize
-    requires { (g.count ≤ labels_limit) × (table_words ≤ length table.old) }
-    ensures { Rows (labels_in g) result table.new }
+// The rows of the labels behind a group's first one, at the front of the table.
+pub fn tabulate<'a>(g: Group, table: &'a mut [Row]) -> &'a [Row]
+    requires { (g.count ≤ labels_limit) × (labels_limit ≤ length table.old) }
+    ensures { Rows (labels_in g) result.now }
 {
-    if g.count < 2 {
-        return 0;
+    match g.labels() {
+        [] => &table[..0],
+        [_, behind @ ..] => {
+            set_rows(behind, table);
+            &table[..behind.len()]
+        },
     }
-    set_rows(g, table)
 }

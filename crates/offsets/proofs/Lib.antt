@@ -1,5 +1,5 @@
 pub mod Digits
 pub mod OffsetCases
-pub mod OffsetWords
+pub mod OffsetPlaces
 pub mod OwnedWords
 pub mod Runs

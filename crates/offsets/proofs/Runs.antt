@@ -1,23 +1,16 @@
--- Runs of a group's first label: its step in a tensor, and along a run a count's offset grows by the label's weight.
+-- Runs of a group's first label: along a run a count's offset grows by the label's weight.
 -- Assumes nothing.
-use Rattle.std.proofs.Common.{◌≡◌, ℕ, ◌+◌, ◌*◌, ◌/◌, ◌%◌, ◌<◌, List, [], ◌∷◌, length, get_or, drop, sym, refl, ap, ◌∙◌, mul-zero, zero-add, zero-mul, arith}
+use Rattle.std.proofs.Common.{◌≡◌, ℕ, ◌+◌, ◌*◌, ◌/◌, ◌%◌, ◌<◌, List, [], ◌∷◌, length, drop, sym, refl, ap, ◌∙◌, mul-zero, zero-add, zero-mul, arith}
 use native.Mathlib.Nat.{div-add-mod, mul-mod_right, mul-div_right, zero-mod, zero-div}
 use Rattle.words.specs.Words.{word_of}
-use Rattle.contraction.specs.Operands.{Operand}
-use Rattle.contraction.specs.TensorPlaces.{tensor_count, operand_at}
-use Rattle.contraction.proofs.TensorPlaces.{at_place}
+use Rattle.contraction.specs.declared.contraction.Operand.{Operand}
 use Rattle.groups.specs.declared.groups.Group.{Group}
 use Rattle.groups.specs.Groups.{Label, size}
 use Rattle.groups.specs.Held.{labels_in}
 use Rattle.groups.proofs.LabelLists.{labels_count}
 use Rattle.offsets.specs.Counts.{offset, offset_in}
-use Rattle.offsets.specs.declared.first_label.FirstLabel.{FirstLabel}
-use Rattle.offsets.specs.FirstLabel.{first_label, FirstLabelOf}
+use Rattle.offsets.specs.FirstLabel.{first_label}
 use Rattle.offsets.proofs.Digits.{lowest, rest, pos_left}
-
--- the step at a tensor's place is its first label's
-pub step_at : {g : List Label} (l : FirstLabel) {n : ℕ} → FirstLabelOf g l → n < tensor_count → get_or l.step.words n 0 ≡ word_of 64 ((first_label g).stride (operand_at n))
-step_at l {n} f h = sym (at_place l.step.words n h) ∙ f.step (operand_at n)
 
 -- in a group that has a count
 pub first_counts : (g : List Label) {n : ℕ} → n < size g → 0 < (first_label g).extent

@@ -1,7 +1,7 @@
 -- How far a count of a group goes in a tensor. The first label runs fastest.
 -- Assumes nothing.
 use Rattle.std.specs.Prelude.{ℕ, ◌+◌, ◌*◌, ◌/◌, ◌%◌, List, [], ◌∷◌, ℤ}
-use Rattle.contraction.specs.Operands.{Operand}
+use Rattle.contraction.specs.declared.contraction.Operand.{Operand}
 use Rattle.groups.specs.Groups.{Label}
 
 -- Σ digit × weight over the labels of a group at a count: the weight of a label is a part of its stride in a tensor

@@ -3,7 +3,7 @@
 use Rattle.std.specs.Prelude.{◌≡◌, List, [], ◌∷◌, pos}
 use Rattle.words.specs.Lists.{tabulate}
 use Rattle.words.specs.Words.{up}
-use Rattle.contraction.specs.Operands.{A}
+use Rattle.contraction.specs.declared.contraction.Operand.TheVariants.{A}
 use Rattle.groups.specs.Groups.{Label}
 use Rattle.offsets.specs.Counts.{offset_in}
 

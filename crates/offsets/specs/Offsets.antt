@@ -2,7 +2,7 @@
 -- Assumes nothing.
 use Rattle.std.specs.Prelude.{◌≡◌, ℕ}
 use Rattle.words.specs.Words.{word}
-use Rattle.contraction.specs.Operands.{Operand}
+use Rattle.contraction.specs.declared.contraction.Operand.{Operand}
 use Rattle.contraction.specs.TensorPlaces.{by_tensor}
 use Rattle.offsets.specs.declared.offsets.Offsets.{Offsets}
 

@@ -1,5 +1,4 @@
-// How far a count of a group goes in each tensor, and the runs of its first label.
+// For each tensor an address word, or how far one moves.
 #![tactic(auto)]
 
-pub mod first_label;
 pub mod offsets;

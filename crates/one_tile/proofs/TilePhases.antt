@@ -8,7 +8,7 @@ use Prim.Native.Nat.{ℕ, ◌<◌}
 use lib.Dec.{eqb}
 use lib.ListN.{length, get_or}
 use Rattle.words.specs.Loops.{put}
-use Rattle.contraction.specs.Operands.{C, D}
+use Rattle.contraction.specs.declared.contraction.Operand.TheVariants.{C, D}
 use Rattle.plan.specs.declared.plan.Plan.{Plan}
 use Rattle.tiles.specs.declared.grid.Tile.{Tile}
 use Rattle.tiles.specs.Cut.{Cut, total, panel_of}

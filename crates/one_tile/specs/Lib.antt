@@ -1,1 +1,2 @@
 pub mod HeldPacks
+pub mod TiledCalls

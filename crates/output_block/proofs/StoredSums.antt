@@ -7,7 +7,7 @@ use Prim.Native.Nat.{ℕ}
 use lib.ListN.{get_or, set}
 use Rattle.words.specs.Loops.{put}
 use Rattle.words.proofs.Loops.{each_ext}
-use Rattle.contraction.specs.Operands.{C, D}
+use Rattle.contraction.specs.declared.contraction.Operand.TheVariants.{C, D}
 use Rattle.groups.specs.Groups.{Label}
 use Rattle.offsets.specs.declared.offsets.Offsets.{Offsets}
 use Rattle.meaning.specs.Meaning.{start_of}

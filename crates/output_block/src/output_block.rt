@@ -1,66 +1,44 @@
 ghost use Rattle.std.specs.Prelude.{◌≡◌, true, ◌≤◌, length};
 ghost use Rattle.words.specs.Loops.{Within};
 ghost use Rattle.limits.specs.Limits.{block_limit};
-ghost use Rattle.contraction.specs.Operands.{C, D};
+ghost use Rattle.contraction.specs.declared.contraction.Operand.TheVariants.{C, D};
 ghost use Rattle.sums.specs.Walk.{steps, over};
-ghost use Rattle.output_run.specs.FilledOutput.{run_filled, RunFillable};
-ghost use Rattle.output_block.specs.StoredRun.{run_stored};
+ghost use Rattle.output_run.specs.FilledOutput.{run_of, RunFillable};
+ghost use Rattle.output_block.specs.StoredRun.{stored_of};
 
-use contraction::contraction::Contraction;
+use contraction::contraction::Operand;
 use limits::limits::Limits;
-use offsets::offsets::Offsets;
-use output_words::output::store_block;
+use output_words::output::{Sources, store_block};
 use side_sums::side::block_sums;
-use sums::walk::Walk;
+use sums::tabled::TabledWalk;
+use sums::walk::Run;
 
-// The sums of n outputs of a run, each combined with what it starts from and stored.
-pub fn store_run(
-    c: &[u32],
-    d: &mut [u32],
-    named: bool,
-    alpha: u32,
-    beta: u32,
-    sums: &[u32; Limits::BLOCK],
-    n: usize,
-    from: Offsets,
-    step: Offsets,
-)
-    requires { (n ≤ block_limit)
-        × (named ≡ true → Within n (λ r. steps from step r C) (length c.now))
-        × Within n (λ r. steps from step r D) (length d.old) }
-    ensures { d.new ≡ run_stored named alpha beta sums.now c.now step n from d.old }
+// The sums of a run of outputs, each combined with what it starts from and stored.
+pub fn store_run(x: &Sources, d: &mut [u32], sums: &[u32; Limits::BLOCK], run: Run)
+    requires { (run.len ≤ block_limit)
+        × (x.now.named ≡ true → Within run.len (λ r. steps run.from run.step r C) (length x.now.c.now))
+        × Within run.len (λ r. steps run.from run.step r D) (length d.old) }
+    ensures { d.new ≡ stored_of x.now sums.now run d.old }
 {
-    let from_c = from.words[Contraction::C];
-    let from_d = from.words[Contraction::D];
-    let step_c = step.words[Contraction::C];
-    let step_d = step.words[Contraction::D];
     store_block(
-        c, d, named, alpha, beta, sums, n, from_c, from_d, step_c, step_d,
+        x,
+        d,
+        sums,
+        run.len as usize,
+        run.from.of(Operand::C),
+        run.from.of(Operand::D),
+        run.step.of(Operand::C),
+        run.step.of(Operand::D),
     );
 }
 
-// The words of D of n output counts of a run, summed side by side.
-pub fn fill_block(
-    a: &[u32],
-    b: &[u32],
-    c: &[u32],
-    d: &mut [u32],
-    named: bool,
-    alpha: u32,
-    beta: u32,
-    from: Offsets,
-    step: Offsets,
-    n: usize,
-    depth: Walk,
-    table: &[u64],
-    count: usize,
-)
-    requires { (1 ≤ n)
-        × (n ≤ block_limit)
-        × RunFillable named step n from depth a.now b.now c.now (length d.old) count table.now }
-    ensures { d.new
-        ≡ run_filled named alpha beta (over depth) a.now b.now c.now step n from d.old }
+// The words of D of a block's output counts, summed side by side.
+pub fn fill_block(x: &Sources, d: &mut [u32], block: Run, depth: &TabledWalk)
+    requires { (1 ≤ block.len)
+        × (block.len ≤ block_limit)
+        × RunFillable x.now (over depth.now.walk) block (length d.old) }
+    ensures { d.new ≡ run_of x.now (over depth.now.walk) block d.old }
 {
-    let sums = block_sums(a, b, from, step, n, depth, table, count);
-    store_run(c, d, named, alpha, beta, &sums, n, from, step);
+    let sums = block_sums(x.a, x.b, block, depth);
+    store_run(x, d, &sums, block);
 }

@@ -2,13 +2,14 @@
 -- Assumes nothing.
 use Rattle.std.specs.Prelude.{ℕ, ◌<◌, ◌≡◌, Bool, true, List, length, get_or}
 use Rattle.words.specs.Loops.{each, put, Within}
-use Rattle.contraction.specs.Operands.{Operand, C, D}
+use Rattle.contraction.specs.declared.contraction.Operand.{Operand}
+use Rattle.contraction.specs.declared.contraction.Operand.TheVariants.{C, D}
 use Rattle.groups.specs.Groups.{Label}
 use Rattle.offsets.specs.declared.offsets.Offsets.{Offsets}
 use Rattle.meaning.specs.Meaning.{start_of, combined}
-use Rattle.odometer.specs.Odometer.{Rows}
-use Rattle.sums.specs.declared.walk.Walk.{Walk}
-use Rattle.sums.specs.Walk.{steps, sum_from, over, Readable, Walks}
+use Rattle.output_words.specs.declared.output.Sources.{Sources}
+use Rattle.sums.specs.declared.walk.Run.{Run}
+use Rattle.sums.specs.Walk.{steps, sum_from, Readable}
 
 -- D's words with the one at an output's address word filled; where C is named, its words c are read
 unfoldable pub filled : Bool → ℕ → ℕ → List Label → List ℕ → List ℕ → List ℕ → (Operand → ℕ) → List ℕ → List ℕ
@@ -25,9 +26,12 @@ pub record Clear (named : Bool) (n : ℕ) (at : ℕ → Operand → ℕ) (g : Li
   pub starts : named ≡ true → Within n (λ v. at v C) (length c)
   pub writes : Within n (λ v. at v D) len
 
--- what filling n outputs of a run may assume, each a step from the one before: the code's walk goes over the depth group, with the table of its labels, and all
--- that is read and written is inside
-pub record RunFillable (named : Bool) (step : Offsets) (n : ℕ) (from : Offsets) (depth : Walk) (a b c : List ℕ) (len count : ℕ) (table : List ℕ) : Type 0 where
-  pub walks : Walks (over depth) depth
-  pub rows : Rows (over depth) count table
-  pub clear : Clear named n (steps from step) (over depth) a b c len
+-- ---- by the words that D is made from
+
+-- D's words with a run of outputs filled
+abbrev pub run_of : Sources → List Label → Run → List ℕ → List ℕ
+run_of x g run = run_filled x.named x.alpha x.beta g x.a.now x.b.now x.c.now run.step run.len run.from
+
+-- what filling a run of outputs may assume: all that is read and written is inside
+abbrev pub RunFillable : Sources → List Label → Run → ℕ → Type 0
+RunFillable x g run = Clear x.named run.len (steps run.from run.step) g x.a.now x.b.now x.c.now

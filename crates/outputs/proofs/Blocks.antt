@@ -1,12 +1,13 @@
 -- A run of outputs in blocks: a block begins v steps from the run's first output, and its outputs are the run's from v on.
 -- Assumes nothing.
-use Rattle.std.proofs.Common.{◌≡◌, ℕ, ◌+◌, ◌*◌, ◌^◌, ◌<◌, ◌≤◌, Bool, List, length, get_or, sym, ap, ◌∙◌, arith}
+use Rattle.std.proofs.Common.{◌≡◌, ℕ, ◌+◌, ◌*◌, ◌^◌, ◌<◌, ◌≤◌, Bool, List, length, get_or, ap, ◌∙◌, arith}
 use mathlib.Core.Path.{subst⁻¹, fun_ext}
 use Rattle.words.specs.Words.{word}
 use Rattle.words.specs.Loops.{each}
 use Rattle.words.proofs.Loops.{each_more}
 use Rattle.words.proofs.Modular.{word_add_right}
-use Rattle.contraction.specs.Operands.{Operand, C, D}
+use Rattle.contraction.specs.declared.contraction.Operand.{Operand}
+use Rattle.contraction.specs.declared.contraction.Operand.TheVariants.{C, D}
 use Rattle.contraction.specs.TensorPlaces.{operand_number}
 use Rattle.groups.specs.Groups.{Label}
 use Rattle.offsets.specs.declared.offsets.Offsets.{Offsets}
@@ -27,12 +28,12 @@ module _ (from step at : Offsets) (v n : ℕ) (e : words_in at ≡ steps from st
       same o f = omega arith
 
   -- and moved by them at once
-  pub leapt : (width : ℕ) {by to : Offsets} → n ≡ width → Words by (λ o. width * words_in step o) → Words to (λ o. words_in at o + words_in by o) → words_in to ≡ steps from step (v + n)
-  leapt width q w p =
+  pub leapt : {by to : Offsets} → Words by (λ o. n * words_in step o) → Words to (λ o. words_in at o + words_in by o) → words_in to ≡ steps from step (v + n)
+  leapt w p =
       fun_ext
       (λ o.
-      p.each o ∙ ap (λ (x : ℕ). word 64 (words_in at o + x)) (w.each o) ∙ word_add_right 64 (words_in at o) (width * words_in step o)
-      ∙ ap (λ (x : ℕ). word 64 (words_in at o + x * words_in step o)) (sym q) ∙ ap (λ (f : Operand → ℕ). f o) steps_more)
+      p.each o ∙ ap (λ (x : ℕ). word 64 (words_in at o + x)) (w.each o) ∙ word_add_right 64 (words_in at o) (n * words_in step o)
+      ∙ ap (λ (f : Operand → ℕ). f o) steps_more)
 
 module _ (from step at : Offsets) (v : ℕ) (e : words_in at ≡ steps from step v) where
   -- a block of a run that is clear
@@ -46,8 +47,9 @@ module _ (from step at : Offsets) (v : ℕ) (e : words_in at ≡ steps from step
       }
 
   -- D's words after a block
-  pub block_turn : (body : (Operand → ℕ) → List ℕ → List ℕ) (n : ℕ) (d₀ : List ℕ) {d new : List ℕ} → d ≡ each v (λ k. body (steps from step k)) d₀
-      → new ≡ each n (λ r. body (steps at step r)) d → new ≡ each (v + n) (λ k. body (steps from step k)) d₀
-  block_turn body n d₀ i j =
-      j ∙ ap (each n (λ r. body (steps at step r))) i
-      ∙ each_more v n (λ k. body (steps from step k)) (λ r. body (steps at step r)) d₀ (λ r h x. rw (steps_more from step at v r e))
+  pub block_turn : (body : (Operand → ℕ) → List ℕ → List ℕ) (n : ℕ) (d₀ : List ℕ) {m : ℕ} {d new : List ℕ} → m ≡ v + n → d ≡ each v (λ k. body (steps from step k)) d₀
+      → new ≡ each n (λ r. body (steps at step r)) d → new ≡ each m (λ k. body (steps from step k)) d₀
+  block_turn body n d₀ q i j =
+      rw q
+      (j ∙ ap (each n (λ r. body (steps at step r))) i
+      ∙ each_more v n (λ k. body (steps from step k)) (λ r. body (steps at step r)) d₀ (λ r h x. rw (steps_more from step at v r e)))

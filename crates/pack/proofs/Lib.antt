@@ -1,2 +1,3 @@
 pub mod PackedCases
 pub mod Packing
+pub mod Zeros

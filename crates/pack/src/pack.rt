@@ -1,45 +1,31 @@
 ghost use Rattle.std.specs.Prelude.{◌≡◌, ◌+◌, ◌*◌, ◌<◌, ◌≤◌, length, get_or};
 ghost use Rattle.block.specs.Places.{place_of};
 ghost use Rattle.stretch.specs.StretchLanes.{lanes_stored};
-ghost use Rattle.pack.specs.PackNeeds.{BandIn, Packable};
+ghost use Rattle.pack.specs.PackNeeds.{band_stored, BandIn, Packable};
 
-use block::block::{Block, step_at, wide};
+use block::block::{Block, step_at};
 use limits::limits::Limits;
-use stretch::stretch::pack_stretch;
+use stretch::stretch::{Lanes, Stretch, pack_stretch};
 
-// The words at the places of a block in each of m lanes from lane d on, stretch by stretch.
-fn pack_band(
-    src: &[u32],
-    starts: &[u64; Limits::DEPTH],
-    d: usize,
-    m: usize,
-    offsets: &[u64; Limits::BLOCK],
-    lengths: &[u8; Limits::BLOCK],
-    count: usize,
-    width: usize,
-    out: &mut [u32],
-    to: usize,
-)
-    requires { BandIn starts.now d m offsets.now lengths.now count width to (length src.now) (length out.old) }
-    ensures { out.new
-        ≡ lanes_stored m count width
-        (λ q r. get_or src.now (place_of (get_or starts.now (d + q) 0) offsets.now r) 0)
-        to out.old }
+// How many lanes make a band: enough that the set-up of a stretch does not count, and few enough that what they read stays near.
+const BAND: usize = 16;
+
+// The words at the places of a block in each lane, stretch by stretch.
+fn pack_band(lanes: Lanes, block: &Block, out: &mut [u32], to: usize)
+    requires { BandIn lanes block.now to (length out.old) }
+    ensures { out.new ≡ band_stored lanes.entry block.now to out.old }
 {
     let mut r: usize = 0;
-    while r < count {
-        let n = wide(lengths[r]);
-        let step = step_at(offsets, r);
-        pack_stretch(src, starts, d, m, offsets[r], step, n, width, out, to + r);
-        r += n;
+    // Stays a while: a turn goes on by as many places as the stretch has, which it reads; a for has no such step.
+    while r < block.count {
+        let s = Stretch {
+            offset: block.offsets[r],
+            step: step_at(&block.offsets, r),
+            len: usize::from(block.lengths[r]),
+        };
+        pack_stretch(lanes, s, out, to + r);
+        r += s.len;
     }
-}
-
-// How many of the lanes that are left make a band: enough that the set-up of a stretch does not count, and few enough that what they read stays near.
-fn band(left: usize) -> usize
-    ensures { (result ≤ left) × (0 < left → 0 < result) }
-{
-    if left < 16 { left } else { 16 }
 }
 
 // A block packed in the first `filled` lanes: place n of lane d at n + width × d. `starts` has where the block begins at each of these depth counts.
@@ -48,34 +34,24 @@ pub fn pack(
     src: &[u32],
     starts: &[u64; Limits::DEPTH],
     filled: usize,
-    block: Block,
+    block: &Block,
     width: usize,
     out: &mut [u32],
 )
-    requires { Packable starts.now filled block width (length src.now) (length out.old) }
+    requires { Packable starts.now filled block.now width (length src.now) (length out.old) }
     ensures { out.new
-        ≡ lanes_stored filled block.count width
-        (λ d n. get_or src.now (place_of (get_or starts.now d 0) block.offsets n) 0)
+        ≡ lanes_stored filled block.now.count width
+        (λ d n. get_or src.now (place_of (get_or starts.now d 0) block.now.offsets n) 0)
         0 out.old }
 {
-    let offsets = block.offsets;
-    let lengths = block.lengths;
-    let count = block.count;
-    let mut d: usize = 0;
-    while d < filled {
-        let m = band(filled - d);
-        pack_band(
+    for d in (0..filled).step_by(BAND) {
+        let lanes = Lanes {
             src,
             starts,
-            d,
-            m,
-            &offsets,
-            &lengths,
-            count,
+            first: d,
+            count: (filled - d).min(BAND),
             width,
-            out,
-            width * d,
-        );
-        d += m;
+        };
+        pack_band(lanes, block, out, width * d);
     }
 }

@@ -1,30 +1,16 @@
 ghost use Rattle.std.specs.Prelude.{◌≡◌, ◌+◌, ◌-◌, ◌*◌, ◌≤◌, length, get_or};
-ghost use Rattle.words.specs.Fronts.{stored, front};
+ghost use Rattle.words.specs.Fronts.{front};
 ghost use Rattle.stretch.specs.StretchLanes.{lanes_stored, LanesRoom};
 ghost use Rattle.pack.specs.Packed.{packed_word};
-
-// Zeros from `to` up to `end`.
-fn clear(out: &mut [u32], to: usize, end: usize)
-    requires { (to ≤ end) × (end ≤ length out.old) }
-    ensures { out.new ≡ stored (end - to) (λ r. 0) to out.old }
-{
-    let mut x = to;
-    while x < end {
-        out[x] = 0;
-        x += 1;
-    }
-}
 
 // n zeros in each of m lanes, from place `to` of the first on.
 fn clear_band(out: &mut [u32], to: usize, n: usize, width: usize, m: usize)
     requires { LanesRoom m n width to (length out.old) }
     ensures { out.new ≡ lanes_stored m n width (λ q r. 0) to out.old }
 {
-    let mut q: usize = 0;
-    while q < m {
+    for q in 0..m {
         let at = to + width * q;
-        clear(out, at, at + n);
-        q += 1;
+        out[at..at + n].fill(0);
     }
 }
 
@@ -37,5 +23,5 @@ pub fn pad(out: &mut [u32], count: usize, filled: usize, width: usize, depth: us
         out.old }
 {
     clear_band(out, count, width - count, width, filled);
-    clear(out, width * filled, width * depth);
+    out[width * filled..width * depth].fill(0);
 }

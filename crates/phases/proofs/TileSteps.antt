@@ -16,7 +16,8 @@ use Rattle.words.proofs.Modular.{word_add_right, word_mul_right}
 use Rattle.words.proofs.Loops.{each_ext}
 use Rattle.words.proofs.Sums.{sum_to_ext}
 use Rattle.limits.specs.Limits.{block_limit}
-use Rattle.contraction.specs.Operands.{Operand, C, D}
+use Rattle.contraction.specs.declared.contraction.Operand.{Operand}
+use Rattle.contraction.specs.declared.contraction.Operand.TheVariants.{C, D}
 use Rattle.plan.specs.declared.plan.Plan.{Plan}
 use Rattle.block.specs.declared.block.Block.{Block}
 use Rattle.block.specs.Places.{place_of, as_step, PlacesIn}
@@ -36,9 +37,10 @@ use Rattle.tiles.specs.TileWalk.{tile_at}
 use Rattle.tiles.proofs.Cuts.{width_le, panel_width_lem}
 use Rattle.tile_blocks.specs.Side.{Side, left, right}
 use Rattle.tile_blocks.specs.Planned.{at_batch, place_of_output, plan_setting}
+use Rattle.tile_blocks.specs.PlannedTiles.{SideBlock}
 use Rattle.tile_blocks.specs.TilePlaces.{Begins}
 use Rattle.tile_packs.specs.TilePacks.{packs, side_width, panel_width}
-use Rattle.tile_packs.proofs.SideBlocks.{SideBlock, in_lane, count_in}
+use Rattle.tile_packs.proofs.SideBlocks.{in_lane, count_in}
 use Rattle.phases.specs.Phases.{OutputClear, from_c, PackedIn}
 
 -- the packed tile's sizes, as the kernel gets them

@@ -2,7 +2,7 @@
 -- Assumes nothing.
 use Rattle.std.specs.Prelude.{cond, eqb}
 use Rattle.contraction.specs.declared.contraction.Contraction.{Contraction}
-use Rattle.contraction.specs.Operands.{D}
+use Rattle.contraction.specs.declared.contraction.Operand.TheVariants.{D}
 use Rattle.meaning.specs.Meaning.{Slices, first_no, result}
 use Rattle.answers.specs.PlainAnswer.{plain_done, plain_refused, PlainCall, plain_call_of}
 

@@ -3,17 +3,23 @@ ghost use Rattle.contraction.specs.Operands.{four};
 ghost use Rattle.answers.specs.PlainAnswer.{plain_answer, plain_call_of};
 ghost use Rattle.plain.specs.PlainCall.{plain_call};
 
-use answers::plain_answer::Outcome;
 use contraction::contraction::{Contraction, Lengths};
 use direct::fill::fill;
 use folding::fold::folded;
 use groups::groups::groups_of;
 use plan::plan::base_of;
 use questions::questions::first_no;
+use refusals::refusal::Refusal;
 use sums::walk::walk_of;
 
 // Questions 1 to 9; where all pass, D's words become the contraction's. A refusal changes no word. C is read where it is named.
-pub fn contract(k: Contraction, a: &[u32], b: &[u32], c: &[u32], d: &mut [u32]) -> Outcome
+pub fn contract(
+    k: Contraction,
+    a: &[u32],
+    b: &[u32],
+    c: &[u32],
+    d: &mut [u32],
+) -> Result<(), Refusal>
     ensures { plain_call_of (plain_answer result) d.new
         ≡ plain_call k (four a.now b.now c.now d.old) }
 {
@@ -23,12 +29,7 @@ pub fn contract(k: Contraction, a: &[u32], b: &[u32], c: &[u32], d: &mut [u32]) 
         c: c.len(),
         d: d.len(),
     };
-    let x = first_no(k, n);
-    let number = x.number;
-    if number != 0 {
-        return Outcome::Refused(number);
-    }
-    let lists = x.lists;
+    let lists = first_no(k, n)?;
     let sets = groups_of(lists);
     let output = folded(lists, lists.d.letters.set);
     let depth = folded(lists, sets.depth);
@@ -37,12 +38,12 @@ pub fn contract(k: Contraction, a: &[u32], b: &[u32], c: &[u32], d: &mut [u32]) 
         b,
         c,
         d,
-        k.named,
+        k.c.is_some(),
         k.alpha,
         k.beta,
         base_of(k),
         walk_of(output),
         walk_of(depth),
     );
-    Outcome::Done
+    Ok(())
 }

@@ -27,15 +27,17 @@ use Rattle.labels.proofs.Facts.{strides_bound}
 use Rattle.points.specs.LabelQuestions.{letters_among, letters_same, points, points_fit}
 use Rattle.contraction.specs.declared.contraction.Contraction.{Contraction}
 use Rattle.contraction.specs.declared.operands.Operands.{Operands}
-use Rattle.contraction.specs.Operands.{Operand, A, B, C, D, Shape, tensors, shape, together}
+use Rattle.contraction.specs.Operands.{Shape, tensors, shape, together}
+use Rattle.contraction.specs.declared.contraction.Operand.{Operand}
+use Rattle.contraction.specs.declared.contraction.Operand.TheVariants.{A, B, C, D}
 use Rattle.contraction.specs.TensorAxes.{shape_of, Gathered, Ready}
 use Rattle.contraction.proofs.Again.{labels_among, labels_short}
 use Rattle.questions.proofs.Ready.{AllPassed}
 use Rattle.groups.specs.Groups.{Label, Group, in_group, labels_where, group, outputs, label}
 use Rattle.groups.specs.Foldable.{points_in, Small, Foldable}
-use Rattle.folding.specs.Fold.{fold}
+use Rattle.folding.specs.Fold.{add_to, fold}
 use Rattle.plan.specs.Plan.{AllFoldable}
-use Rattle.folding.proofs.Folding.{add_to, Folding, fold_start, fold_end, fold_skip, fold_add}
+use Rattle.folding.proofs.Folding.{Folding, fold_start, fold_end, fold_skip, fold_add}
 
 module _ (t : Operand → Layout) (n : Operand → ℕ) (p : AllPassed t n) where
   rank : (o : Operand) → length (axes (t o)) ≤ rank_limit

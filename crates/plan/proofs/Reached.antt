@@ -21,7 +21,8 @@ use Rattle.layout.specs.Layout.{axes, address}
 use Rattle.validity.specs.TensorQuestions.{strides_valid, sizes_valid}
 use Rattle.entries.specs.Bounds.{Inside}
 use Rattle.entries.proofs.Bounds.{inside_every}
-use Rattle.contraction.specs.Operands.{Operand, shape}
+use Rattle.contraction.specs.Operands.{shape}
+use Rattle.contraction.specs.declared.contraction.Operand.{Operand}
 use Rattle.questions.proofs.Ready.{AllPassed}
 use Rattle.groups.specs.Groups.{letters, Group, depth, in_group, labels_where, group, outputs, size}
 use Rattle.offsets.specs.Counts.{offset_in}

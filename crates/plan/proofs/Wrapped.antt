@@ -9,7 +9,7 @@ use Rattle.words.specs.Sums.{All}
 use Rattle.words.specs.Words.{word, up, down, word_of}
 use Rattle.words.proofs.Lists.{all_imp}
 use Rattle.words.proofs.Whole.{sign, size_parts, word_is}
-use Rattle.contraction.specs.Operands.{Operand}
+use Rattle.contraction.specs.declared.contraction.Operand.{Operand}
 use Rattle.groups.specs.Groups.{Label}
 use Rattle.groups.specs.Foldable.{Foldable}
 use Rattle.offsets.specs.Counts.{offset_in}

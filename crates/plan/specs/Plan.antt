@@ -4,7 +4,8 @@ use Rattle.std.specs.Prelude.{ℕ, ◌≤◌, ◌≡◌, Bool, length}
 use Rattle.limits.specs.Limits.{labels_limit}
 use Rattle.layout.specs.declared.layout.Layout.{Layout}
 use Rattle.labels.specs.Labels.{labels}
-use Rattle.contraction.specs.Operands.{Operand, Shape, shape, together}
+use Rattle.contraction.specs.Operands.{Shape, shape, together}
+use Rattle.contraction.specs.declared.contraction.Operand.{Operand}
 use Rattle.groups.specs.declared.groups.Group.{Group as GroupCode}
 use Rattle.groups.specs.Groups.{Group, depth, labels_where, group, outputs}
 use Rattle.groups.specs.Held.{labels_in}

@@ -1,4 +1,3 @@
-ghost use Rattle.std.specs.Prelude.{◌≡◌, cond};
 ghost use Rattle.contraction.specs.Operands.{tensors, shape};
 ghost use Rattle.contraction.specs.TensorAxes.{Ready};
 ghost use Rattle.plan.specs.Plan.{AllFoldable, Bases, Planned};
@@ -16,26 +15,16 @@ pub struct Plan {
     pub base: Offsets,
 }
 
-// Where C begins. Where C is not named, that is where D begins.
-fn base_of_c(named: bool, c: u32, d: u32) -> u32
-    ensures { result ≡ cond named c d }
-{
-    if named { c } else { d }
-}
-
-// Where each tensor begins.
+// Where each tensor begins. Where C is not named, it begins where D does.
 pub fn base_of(c: Contraction) -> Offsets
     ensures { Bases (tensors c) result }
 {
-    let a = c.a;
-    let b = c.b;
-    let third = c.c;
-    let d = c.d;
+    let base_of_c = c.c.unwrap_or(c.d).base;
     let words = [
-        a.base as u64,
-        b.base as u64,
-        base_of_c(c.named, third.base, d.base) as u64,
-        d.base as u64,
+        c.a.base as u64,
+        c.b.base as u64,
+        base_of_c as u64,
+        c.d.base as u64,
     ];
     Offsets { words }
 }

@@ -1,3 +1,5 @@
+pub mod AllAsked
+pub mod Later
 pub mod QuestionCases
 pub mod Ready
 pub mod QuestionsWithoutC

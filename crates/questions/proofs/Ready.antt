@@ -9,7 +9,9 @@ use Rattle.layout.specs.Layout.{axes}
 use Rattle.validity.specs.TensorQuestions.{rank_fits, counts_match, letters_valid, extents_valid, sizes_valid}
 use Rattle.points.specs.LabelQuestions.{extents_agree, letters_same, points_fit}
 use Rattle.entries.specs.EntryQuestions.{inside, apart}
-use Rattle.contraction.specs.Operands.{Operand, C, D, shape, together}
+use Rattle.contraction.specs.Operands.{shape, together}
+use Rattle.contraction.specs.declared.contraction.Operand.{Operand}
+use Rattle.contraction.specs.declared.contraction.Operand.TheVariants.{C, D}
 use Rattle.tensor_answers.specs.Asking.{refusal}
 use Rattle.tensor_answers.specs.OwnQuestions.{tensor_questions}
 use Rattle.questions.specs.Questions.{lent_tensors, label_questions, entry_questions, layout_questions}

@@ -5,7 +5,9 @@ use Rattle.layout.specs.declared.layout.Layout.{Layout}
 use Rattle.layout.specs.Layout.{axes}
 use Rattle.points.specs.LabelQuestions.{extents_agree, letters_same, points_fit}
 use Rattle.entries.specs.EntryQuestions.{apart}
-use Rattle.contraction.specs.Operands.{Operand, C, D, operands, shape, together}
+use Rattle.contraction.specs.Operands.{operands, shape, together}
+use Rattle.contraction.specs.declared.contraction.Operand.{Operand}
+use Rattle.contraction.specs.declared.contraction.Operand.TheVariants.{C, D}
 use Rattle.tensor_answers.specs.Asking.{Question, ask}
 use Rattle.tensor_answers.specs.OwnQuestions.{Lent, tensor_questions, entries_inside}
 

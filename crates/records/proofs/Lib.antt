@@ -1,2 +1,3 @@
+pub mod Marked
 pub mod Reading
 pub mod RecordCases

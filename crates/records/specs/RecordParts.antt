@@ -1,29 +1,21 @@
 -- What the code's answers say, and what its functions may assume. Inside contracts only.
 -- Assumes nothing.
-use Rattle.std.specs.Prelude.{ℕ, ◌+◌, ◌*◌, ◌≤◌, ◌≡◌, ◌⊎◌, List, length}
+use Rattle.std.specs.Prelude.{ℕ, ◌+◌, ◌*◌, ◌≤◌, ◌≡◌, ◌⊎◌, List, length, Result, Ok, Err}
 use Rattle.limits.specs.Limits.{rank_limit, job_limit}
 use Rattle.layout.specs.declared.layout.Layout.{Layout}
+use Rattle.little_endian.specs.declared.numbers.Cursor.{Cursor}
 use Rattle.little_endian.specs.Bytes.{numbers}
+use Rattle.refusals.specs.declared.refusal.Refusal.{Refusal}
+use Rattle.refusals.specs.Numbers.{number}
 use Rattle.records.specs.declared.records.LayoutPart.{LayoutPart}
 use Rattle.records.specs.declared.records.WordsPart.{WordsPart}
 use Rattle.records.specs.declared.records.TensorParts.{TensorParts}
-use Rattle.records.specs.declared.records.LayoutRead.{LayoutRead}
-use Rattle.records.specs.declared.records.WordsRead.{WordsRead}
-use Rattle.records.specs.declared.records.TensorRead.{TensorRead}
 use Rattle.records.specs.Records.{Reading, got, file_refused, Tensor, tensor, layout_at}
 
--- the code's answers as readings of the parts that they hold
-abbrev pub layout_part : LayoutRead → Reading LayoutPart
-layout_part (LayoutRead.Got p next) = got p next.at
-layout_part (LayoutRead.Refused number) = file_refused number
-
-abbrev pub words_part : WordsRead → Reading WordsPart
-words_part (WordsRead.Got p next) = got p next.at
-words_part (WordsRead.Refused number) = file_refused number
-
-abbrev pub tensor_parts : TensorRead → Reading TensorParts
-tensor_parts (TensorRead.Got p next) = got p next.at
-tensor_parts (TensorRead.Refused number) = file_refused number
+-- the code's answer as a reading of the part that it holds
+abbrev pub reading : {P : Type 0} → Result (P × Cursor) Refusal → Reading P
+reading (Ok (p, next)) = got p next.at
+reading (Err refusal) = file_refused (number refusal)
 
 module _ (file : List ℕ) where
   -- what stands at a part of the file: a layout, words, a tensor, what `GO` holds, a job

@@ -1,4 +1,4 @@
-// A tensor's two records in a job file: its layout and its words.
+// What a job file's records are read as: a record's kind, and a tensor's layout.
 #![tactic(auto)]
 
 pub mod records;

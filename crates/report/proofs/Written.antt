@@ -6,18 +6,9 @@ use Prim.Native.Nat.{ℕ, ◌+◌, ◌≤◌, ◌<◌}
 use native.Mathlib.Nat.{add-zero, add_assoc}
 use native.Mathlib.Numerals.{add-one}
 use native.Mathlib.Omega.{arith}
-use lib.ListN.{length, take, drop, get_or, set, length-append, length-take, length-drop, take-append-drop}
-use lib.Seq.{paste, paste-suc, set_split, take-length, take_at, drop_at, drop-drop}
+use lib.ListN.{length, take, drop, set, length-append, length-take, length-drop, take-append-drop}
+use lib.Seq.{set_split, take_at, drop_at, drop-drop}
 use Rattle.report.specs.Written.{written, Put, Begins}
-
--- the whole of a text, copied
-pub pasted : (out : List ℕ) (at : ℕ) (text : List ℕ) → paste out at text (length text) ≡ written out at text
-pasted out at text = rw (take-length, append_assoc)
-
--- one more byte of it, a turn of the loop that copies
-pub pasted_turn : (out : List ℕ) (at : ℕ) (text : List ℕ) {now : List ℕ} {i : ℕ} → at + length text ≤ length out → i < length text → now ≡ paste out at text i
-    → set now (at + i) (get_or text i 0) ≡ paste out at text (i + 1)
-pasted_turn out at text {now} {i} room h e = rw (e, add-one i) (paste-suc out at text i 0 (omega arith) h)
 
 -- a text that keeps the length, from the start, has room
 pub written_room : (out text : List ℕ) → length (written out 0 text) ≡ length out → length text ≤ length out

@@ -7,12 +7,9 @@ fn put_text(out: &mut [u8], at: usize, text: &[u8]) -> usize
     requires { at + length text.now ≤ length out.old }
     ensures { Put out.old at text.now result out.new }
 {
-    let mut i: usize = 0;
-    while i < text.len() {
-        out[at + i] = text[i];
-        i += 1;
-    }
-    at + text.len()
+    let end = at + text.len();
+    out[at..end].copy_from_slice(text);
+    end
 }
 
 // Puts the decimal digits of n.
@@ -36,12 +33,12 @@ fn put_numbered(out: &mut [u8], at: usize, text: &[u8], n: u64, last: u8) -> usi
     end + 1
 }
 
-// Puts the line `refused n` at the start.
+// Puts the line `refused n` at the start: a number, since that is what the line has.
 pub fn put_refused(out: &mut [u8], number: u32) -> usize
     requires { 32 ≤ length out.old }
     ensures { Begins out.old (refused_text number) result out.new }
 {
-    put_numbered(out, 0, b"refused ", number as u64, b'\n')
+    put_numbered(out, 0, b"refused ", u64::from(number), b'\n')
 }
 
 // Puts the line `tiles t of total` at the start.
@@ -58,7 +55,7 @@ fn put_word(out: &mut [u8], at: usize, word: u32, letter: u8) -> usize
     requires { at + 13 ≤ length out.old }
     ensures { Put out.old at (word_line word letter) result out.new }
 {
-    let at = put_decimal(out, at, word as u64);
+    let at = put_decimal(out, at, u64::from(word));
     put_text(out, at, &[b' ', letter, b'\n'])
 }
 
@@ -69,10 +66,8 @@ fn put_words(out: &mut [u8], at: usize, words: &[u32], letters: &[u8]) -> usize
         (word_lines words.now letters.now (length words.now)) result out.new }
 {
     let mut end = at;
-    let mut k: usize = 0;
-    while k < words.len() {
-        end = put_word(out, end, words[k], letters[k]);
-        k += 1;
+    for (word, letter) in words.iter().zip(letters) {
+        end = put_word(out, end, *word, *letter);
     }
     end
 }

@@ -1,12 +1,13 @@
--- Address words at the front of a list: the list keeps its length, and the counts of a single label lie a step apart.
+-- Address words at the front of a list: written in its first words alone, with the others after them; the counts of a single label lie a step apart.
 -- Assumes nothing.
-use Rattle.std.proofs.Common.{◌≡◌, ℕ, ◌+◌, ◌*◌, ◌<◌, ◌≤◌, List, length, sym, ap, ◌∙◌, add_assoc, add-mul, arith}
+use Rattle.std.proofs.Common.{◌≡◌, ℕ, ◌+◌, ◌*◌, ◌<◌, ◌≤◌, List, ◌++◌, length, take, drop, sym, ap, ◌∙◌, add_assoc, add-mul, arith, length-take}
 use Rattle.words.specs.Words.{word, word_of}
 use Rattle.words.specs.Fronts.{front}
+use Rattle.words.specs.Lists.{tabulate}
 use Rattle.words.specs.Stepped.{stepped}
 use Rattle.words.proofs.Modular.{word_add_left, word_add_right}
-use Rattle.words.proofs.Fronts.{length_front, front_ext}
-use Rattle.contraction.specs.Operands.{Operand}
+use Rattle.words.proofs.Fronts.{front_ext, front_all}
+use Rattle.contraction.specs.declared.contraction.Operand.{Operand}
 use Rattle.groups.specs.declared.groups.Group.{Group}
 use Rattle.groups.specs.Groups.{size}
 use Rattle.groups.specs.Held.{labels_in}
@@ -14,8 +15,12 @@ use Rattle.offsets.specs.FirstLabel.{first_label}
 use Rattle.offsets.proofs.Runs.{lone_offset}
 use Rattle.scatter.specs.ScatterVectors.{word_at, scatter_vector}
 
-pub same_long : (k : ℕ) (w : ℕ → ℕ) (before : List ℕ) {after : List ℕ} → after ≡ front k w before → k ≤ length before → length after ≡ length before
-same_long k w before e h = ap length e ∙ length_front k w before h
+-- the first n words of a list, all of which are written, before the others
+pub front_whole : (n : ℕ) (f : ℕ → ℕ) (xs : List ℕ) {part : List ℕ} {i : ℕ} → n ≤ length xs → i ≡ n → part ≡ front i f (take n xs) → part ++ drop n xs ≡ front n f xs
+unfolding front
+front_whole n f xs {i = i} h e p =
+    let long : i ≡ length (take n xs) = simp length-take (omega arith) in
+    ap (λ (l : List ℕ). l ++ drop n xs) (p ∙ ap (λ (k : ℕ). front k f (take n xs)) long ∙ front_all f (take n xs) ∙ ap (λ (k : ℕ). tabulate k f) (sym long ∙ e))
 
 -- of a group of at most one label, by its step
 module _ (o : Operand) (g : Group) (few : g.count < 2) {step : ℕ} (e : step ≡ word_of 64 ((first_label (labels_in g)).stride o)) where

@@ -3,7 +3,7 @@
 use Rattle.std.specs.Prelude.{◌≡◌, ℕ, ◌+◌, ◌<◌, List, slice_index}
 use Rattle.words.specs.Words.{word, word_of}
 use Rattle.words.specs.Fronts.{front}
-use Rattle.contraction.specs.Operands.{Operand}
+use Rattle.contraction.specs.declared.contraction.Operand.{Operand}
 use Rattle.groups.specs.Groups.{Label}
 use Rattle.offsets.specs.Counts.{offset_in}
 use Rattle.block.specs.declared.block.Block.{Block}

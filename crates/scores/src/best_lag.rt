@@ -9,11 +9,7 @@ use limits::limits::Limits;
 pub fn score_of(word: u32) -> i64
     ensures { result ≡ signed 32 word }
 {
-    if word < 2147483648 {
-        word as i64
-    } else {
-        word as i64 - 4294967296
-    }
+    i64::from(words::signed(word))
 }
 
 // The smallest of the lags 0 to `greatest` with the greatest score.
@@ -21,12 +17,10 @@ pub fn best_lag(scores: &[u32; Limits::LAGS], greatest: usize) -> usize
     requires { greatest ≤ lag_limit }
     ensures { result ≡ best (signed_at scores.now) greatest }
 {
-    let mut lag: usize = 0;
-    let mut l: usize = 0;
-    while l < greatest {
-        l += 1;
-        if score_of(scores[lag]) < score_of(scores[l]) {
-            lag = l;
+    let mut lag = 0;
+    for l in 0..greatest {
+        if score_of(scores[lag]) < score_of(scores[l + 1]) {
+            lag = l + 1;
         }
     }
     lag

@@ -1,10 +1,11 @@
 ghost use Rattle.std.specs.Prelude.{◌≡◌};
+ghost use Rattle.refusals.specs.Numbers.{status};
 ghost use Rattle.words.specs.Sums.{every};
 ghost use Rattle.tensor_answers.specs.Asking.{refusal};
 ghost use Rattle.scores.specs.DelayQuestions.{sample_fits, lags_fit, delay_questions};
 
 use limits::limits::Limits;
-use tensor_answers::tensor_answers::ask;
+use refusals::refusal::{Refusal, ask};
 
 // Is a word, read as signed, a sample?
 fn sample_fits(x: u32) -> bool
@@ -18,13 +19,7 @@ fn sample_fits(x: u32) -> bool
 fn samples_fit(xs: &[u32]) -> bool
     ensures { result ≡ every sample_fits xs.now }
 {
-    let mut i = xs.len();
-    let mut fit = true;
-    while 0 < i {
-        i -= 1;
-        fit = sample_fits(xs[i]) & fit;
-    }
-    fit
+    xs.iter().all(|x| sample_fits(*x))
 }
 
 // Question 31, of recordings of n and m samples.
@@ -38,11 +33,13 @@ fn lags_fit(n: usize, m: usize, greatest_lag: u64) -> bool
     (n == m) & ((lag < n) & (n <= lag + Limits::USED))
 }
 
-// Questions 31 and 32: the number of the first no, or 0.
-pub fn delay_refusal(x: &[u32], y: &[u32], greatest_lag: u64) -> u32
-    ensures { result ≡ refusal (delay_questions x.now y.now greatest_lag) }
+// Questions 31 and 32.
+#[tactic(auto, unfolding(crate::specs::DelayQuestions::delay_questions))]
+pub fn delay_refusal(x: &[u32], y: &[u32], greatest_lag: u64) -> Result<(), Refusal>
+    ensures { status result ≡ refusal (delay_questions x.now y.now greatest_lag) }
 {
     let lags = lags_fit(x.len(), y.len(), greatest_lag);
     let samples = samples_fit(x) & samples_fit(y);
-    ask(31, lags, ask(32, samples, 0))
+    ask(lags, Refusal::Lags)?;
+    ask(samples, Refusal::Samples)
 }

@@ -25,18 +25,17 @@ pub fn add_lane_to_four(
         × (s2.new ≡ products_added n (scaled x.now from b2) s2.old)
         × (s3.new ≡ products_added n (scaled x.now from b3) s3.old) }
 {
-    let mut r: usize = 0;
-    while r < n {
+    for r in 0..n {
         let w = x[from + r];
         add_at(s0, r, w, b0);
         add_at(s1, r, w, b1);
         add_at(s2, r, w, b2);
         add_at(s3, r, w, b3);
-        r += 1;
     }
 }
 
 // The same, for lanes of which most are as long as a block: their length is a constant here, by which the compiler makes a quicker loop of it.
+// Stays a twin of add_lane_to_four: for lanes of which most are short the test is time lost, so each caller takes the one that suits it.
 #[tactic(auto, using(crate::proofs::WholeLane::along_whole))]
 pub fn add_block_lane_to_four(
     s0: &mut [u32; Limits::BLOCK],

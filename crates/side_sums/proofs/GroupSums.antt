@@ -5,7 +5,7 @@ use lib.ListN.{get_or-replicate}
 use Rattle.words.specs.Loops.{Within}
 use Rattle.words.proofs.Sums.{sum_to_ext, sum_to_add}
 use Rattle.limits.specs.Limits.{block_limit}
-use Rattle.contraction.specs.Operands.{A, B}
+use Rattle.contraction.specs.declared.contraction.Operand.TheVariants.{A, B}
 use Rattle.groups.specs.Groups.{Label, size}
 use Rattle.dots.specs.Dot.{dot}
 use Rattle.sums.specs.declared.walk.Walk.{Walk}

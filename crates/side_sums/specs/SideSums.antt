@@ -3,14 +3,22 @@
 use Rattle.std.specs.Prelude.{◌≡◌, ℕ, ◌+◌, ◌<◌, List, length, slice_index}
 use Rattle.words.specs.Words.{word}
 use Rattle.words.specs.Stepped.{stepped}
-use Rattle.contraction.specs.Operands.{Operand}
+use Rattle.contraction.specs.declared.contraction.Operand.{Operand}
 use Rattle.groups.specs.Groups.{Label}
 use Rattle.dots.specs.Dot.{RunReadable}
 use Rattle.sums.specs.Walk.{Readable}
+use Rattle.side_sums.specs.declared.side.Side.{Side}
 
 -- the address word at depth count v of a run, for output r: outputs are `along` apart, depth counts `step`
 abbrev pub side_run : ℕ → ℕ → ℕ → ℕ → ℕ → ℕ
 side_run from along step r = stepped (stepped from along r) step
+
+-- the address words of a tensor along a run of depth counts, for output r, and for any output where it stands still
+abbrev pub side_of : Side → ℕ → ℕ → ℕ
+side_of s = side_run s.from s.along s.step
+
+abbrev pub still_of : Side → ℕ → ℕ
+still_of s = stepped s.from s.step
 
 -- the first n of the code's sums are f 0, f 1, .., modulo 2^32
 pub record Sums (n : ℕ) (f : ℕ → ℕ) (sums : List ℕ) : Type 0 where

@@ -11,7 +11,8 @@ use Rattle.words.specs.Loops.{each, put}
 use Rattle.words.proofs.Loops.{each_ext}
 use Rattle.words.proofs.Tabulate.{length_tabulate, get_or_tabulate}
 use Rattle.contraction.specs.declared.contraction.Contraction.{Contraction}
-use Rattle.contraction.specs.Operands.{D, four, tensors}
+use Rattle.contraction.specs.Operands.{four, tensors}
+use Rattle.contraction.specs.declared.contraction.Operand.TheVariants.{D}
 use Rattle.tensor_answers.specs.Asking.{refusal}
 use Rattle.questions.specs.Questions.{layout_questions}
 use Rattle.questions.proofs.Ready.{AllPassed}

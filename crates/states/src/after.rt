@@ -31,7 +31,7 @@ pub fn letters_after(
         c: c.len(),
         d: d.len(),
     };
-    let x = Accept::of(k, z, n);
+    let x = Accept::of(k, z, n).unwrap();
     let g = x.grid;
     clear(out);
     letter_batches(x.plan, g, t, out);

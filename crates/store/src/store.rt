@@ -6,7 +6,7 @@ ghost use Rattle.block.specs.Places.{place_of, Measured};
 ghost use Rattle.accumulate.specs.Added.{added_to, all_added, rows_added};
 
 use accumulate::accumulate::{Factors, add_by_step, add_row};
-use block::block::{step_at, wide};
+use block::block::step_at;
 use contiguous::contiguous::add_contiguous;
 use limits::limits::Limits;
 
@@ -42,10 +42,8 @@ pub fn store_few(
     requires { (count ≤ block_limit) × Within count (place_of from offsets.now) (length d.old) }
     ensures { d.new ≡ rows_added count f sums.now from offsets.now d.old }
 {
-    let mut r: usize = 0;
-    while r < count {
+    for r in 0..count {
         add_row(d, from, offsets, sums, r, f);
-        r += 1;
     }
 }
 
@@ -66,14 +64,15 @@ pub fn store_column(
     ensures { d.new ≡ rows_added count f sums.now from offsets.now d.old }
 {
     let mut r: usize = 0;
+    // Stays a while: a turn goes on by two rows or by the n of a stretch; a for has no such step.
     while r + 1 < count {
-        let n = wide(lengths[r]);
+        let n = usize::from(lengths[r]);
         if n < 8 {
             add_row(d, from, offsets, sums, r, f);
             add_row(d, from, offsets, sums, r + 1, f);
             r += 2;
         } else {
-            let at = std::num::wrapping_add_u64(from, offsets[r]);
+            let at = from.wrapping_add(offsets[r]);
             add_stretch(d, at, step_at(offsets, r), n, sums, r, f);
             r += n;
         }

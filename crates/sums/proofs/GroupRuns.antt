@@ -6,11 +6,12 @@ use native.Mathlib.Nat.{eq_of_mul-eq-mul_left}
 use Rattle.words.specs.Words.{word, word_of}
 use Rattle.words.specs.Stepped.{stepped}
 use Rattle.limits.specs.Limits.{labels_limit}
-use Rattle.contraction.specs.Operands.{Operand}
+use Rattle.contraction.specs.declared.contraction.Operand.{Operand}
 use Rattle.groups.specs.Groups.{Label, size}
 use Rattle.offsets.specs.declared.offsets.Offsets.{Offsets}
 use Rattle.offsets.specs.Offsets.{words_in}
 use Rattle.offsets.proofs.Runs.{offset_first, offset_run, offset_behind, size_behind}
+use Rattle.odometer.specs.declared.odometer.Row.{Row}
 use Rattle.odometer.specs.Odometer.{Stands, Advanced, Rows}
 use Rattle.odometer.proofs.Carried.{carried_offset, stands_first}
 use Rattle.sums.specs.declared.walk.Walk.{Walk}
@@ -42,10 +43,10 @@ module _ (g : List Label) (w : Walk) (k : Walks g w) where
     run_place o v i = rw (begins o, k.step o, offset_run (λ l. word_of 64 (l.stride o)) g w.len m v refl k.len i) (omega arith)
 
   -- the first run, and from a run to the next
-  module _ {count : ℕ} {table : List ℕ} (r : Rows g count table) where
+  module _ {rows : List Row} (r : Rows g rows) where
     pub first_run : (at : Offsets) → ((i : ℕ) → get_or at.words i 0 < 2 ^ 64) → Stands (drop 1 g) (words_in at) 0 (replicate labels_limit 0) at
     first_run at fits = stands_first (drop 1 g) at (omega (arith, r.few, r.tabled.rows)) fits
 
-    pub next_run : {x : Operand → ℕ} {m : ℕ} {old new : List ℕ} {at to : Offsets} → Advanced count table old new at to
+    pub next_run : {x : Operand → ℕ} {m : ℕ} {old new : List ℕ} {at to : Offsets} → Advanced rows old new at to
         → Stands (drop 1 g) x m old at → m + 1 < w.runs → Stands (drop 1 g) x (m + 1) new to
     next_run {x} {m} a s h = a.next (drop 1 g) x m (rw (← runs_behind h) h) r.tabled s

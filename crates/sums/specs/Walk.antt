@@ -6,7 +6,8 @@ use Rattle.words.specs.Loops.{Within}
 use Rattle.words.specs.Stepped.{stepped}
 use Rattle.dots.specs.Dot.{dot}
 use Rattle.limits.specs.Limits.{labels_limit, product_limit}
-use Rattle.contraction.specs.Operands.{Operand, A, B}
+use Rattle.contraction.specs.declared.contraction.Operand.{Operand}
+use Rattle.contraction.specs.declared.contraction.Operand.TheVariants.{A, B}
 use Rattle.groups.specs.Groups.{Label, size}
 use Rattle.groups.specs.Held.{labels_in}
 use Rattle.offsets.specs.Counts.{offset_in}

@@ -2,4 +2,5 @@
 #![tactic(auto)]
 
 pub mod sum;
+pub mod tabled;
 pub mod walk;

@@ -4,8 +4,8 @@ ghost use Rattle.groups.specs.Held.{labels_in};
 ghost use Rattle.groups.specs.Foldable.{Foldable};
 ghost use Rattle.sums.specs.Walk.{Walks};
 
+use counts::first_label::FirstLabel;
 use groups::groups::Group;
-use offsets::first_label::FirstLabel;
 use offsets::offsets::Offsets;
 
 // A group and how its counts are walked: in runs of its first label, `len` counts each, one step apart. Where that label has extent 0 there is no run.
@@ -15,6 +15,14 @@ pub struct Walk {
     pub step: Offsets,
     pub len: u32,
     pub runs: u32,
+}
+
+// A run of outputs: where the address words of the first one stand, how far each is from the one before, and how many there are.
+#[derive(Clone, Copy)]
+pub struct Run {
+    pub from: Offsets,
+    pub step: Offsets,
+    pub len: u32,
 }
 
 pub fn walk_of(g: Group) -> Walk

@@ -1,3 +1,4 @@
 pub mod Joined
 pub mod OwnQuestionCases
 pub mod Refusal
+pub mod Sooner

@@ -2,17 +2,22 @@
 -- put to every tensor, and an answer by the refusal. Another tensor is one clause more in `of_each_lem`.
 -- Assumes nothing.
 use mathlib.Core.Path.{◌≡◌, refl, sym, ap, ◌∙◌}
-use mathlib.Core.Bool.{Bool, true, false, not, cond}
+use mathlib.Core.Bool.{Bool, true, false, cond}
 use mathlib.Core.List.{List, [], ◌∷◌, ◌++◌}
 use Prim.Native.Nat.{ℕ, ◌<◌}
 use native.Mathlib.Omega.{arith}
 use lib.Dec.{T, eqb, ltb, ltb→lt}
-use borrow.Author.Tests.{not-true, not-false, eq-eqb, ne_eqb}
+use borrow.Author.Tests.{eq-eqb, ne_eqb}
 use Rattle.words.specs.Sums.{every, All}
 use Rattle.words.proofs.Lists.{T_true}
 use Rattle.words.proofs.Sums.{and_split, every_all}
-use Rattle.contraction.specs.Operands.{Operand, A, B, C, D, operands}
-use Rattle.tensor_answers.specs.Asking.{Question, ask, refusal}
+use Rattle.contraction.specs.Operands.{operands}
+use Rattle.contraction.specs.declared.contraction.Operand.{Operand}
+use Rattle.contraction.specs.declared.contraction.Operand.TheVariants.{A, B, C, D}
+use Rattle.refusals.specs.declared.refusal.Refusal.{Refusal}
+use Rattle.refusals.specs.Numbers.{number}
+use Rattle.refusals.proofs.Numbers.{number_above}
+use Rattle.tensor_answers.specs.Asking.{Question, refusal}
 
 -- every question's number is above 0, so that 0 says that none failed
 abbrev pub Numbered : List Question → Type 0
@@ -74,25 +79,6 @@ of_each_lem p e o = T_true (p o) (at o)
     at C = each.1.1.0
     at D = each.1.1.1.0
 
--- the code's answer r to a question p was tested by `!r`
-module _ {r p : Bool} (e : r ≡ p) where
-  pub fails : not r ≡ true → p ≡ false
-  fails t = sym e ∙ not-true r t
-
-  pub passes : not r ≡ false → p ≡ true
-  passes t = sym e ∙ not-false r t
-
--- the number that a list of questions refuses with
-pub record Refuses (qs : List Question) (r : ℕ) : Type 0 where
-  pub number : r ≡ refusal qs
-
-pub none_left : Refuses [] 0
-none_left = record { number = refl }
-
--- a question that code asks before others, its answer as the definition has it: one more question is one more step
-pub asked : (n : ℕ) {p q : Bool} {qs : List Question} {others r : ℕ} → p ≡ q → Refuses qs others → r ≡ cond p others n → Refuses (ask n q ∷ qs) r
-asked n e f g = record { number = rw (g, e, f.number) }
-
 -- a call whose questions refuse with the number n answers x where that is 0, else f n
 module _ {X : Type 0} (x : X) (f : ℕ → X) {n : ℕ} where
   pub answers_no : {k : ℕ} → n ≡ k → (k ≡ 0 → ⊥) → f k ≡ cond (eqb n 0) x (f n)
@@ -100,3 +86,11 @@ module _ {X : Type 0} (x : X) (f : ℕ → X) {n : ℕ} where
 
   pub answers_yes : n ≡ 0 → x ≡ cond (eqb n 0) x (f n)
   answers_yes e = rw (eq-eqb n 0 e)
+
+-- where a refusal has the number of the first list, it has that of both, one behind the other
+pub refused_by : (xs ys : List Question) (e : Refusal) → number e ≡ refusal xs → number e ≡ refusal (xs ++ ys)
+refused_by xs ys e h = h ∙ sym (refusal_first xs ys (λ z. absurd (omega (arith, number_above e, h, z))))
+
+-- where the first list refuses nothing, the number is that of the second
+pub passed_then : (xs ys : List Question) → Numbered xs → 0 ≡ refusal xs → {n : ℕ} → n ≡ refusal ys → n ≡ refusal (xs ++ ys)
+passed_then xs ys k z e = e ∙ sym (refusal_next xs ys k (sym z))

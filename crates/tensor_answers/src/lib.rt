@@ -1,4 +1,4 @@
-// What a tensor answers for itself, and the answers of several joined.
+// What a tensor leaves that passes questions 1 to 5, and the answers of two tensors joined.
 #![tactic(auto)]
 
 pub mod tensor_answers;

@@ -1,99 +1,50 @@
-ghost use Rattle.std.specs.Prelude.{◌≡◌, cond, List, ◌++◌};
-ghost use Rattle.tensor_answers.specs.OwnQuestions.{Lent};
-ghost use Rattle.tensor_answers.specs.Answers.{sooner, AnswerOf, AskedOf};
+ghost use Rattle.tensor_answers.specs.Answers.{BothOf, AskedOf};
 
 use entries::inside::all_inside;
 use labels::letter_sets::Labelled;
 use layout::axes::Axes;
 use layout::layout::Layout;
+use refusals::refusal::{Refusal, ask};
 use validity::tensor_questions::{counts_match, rank_fits, sizes_valid, valid_of};
 
-// What tensors answer for themselves: the number of the first of questions 1 to 5 that fails, or 0; and question 8, asked where none of them fails.
-#[derive(Clone, Copy)]
-pub struct Answer {
-    pub number: u32,
-    pub inside: bool,
-}
-
-// A tensor's answer, and its axes in a list beside their letters, made where questions 1 to 5 pass. The lists stand first: behind the answer they would be
-// copied with its padding, in words that straddle those just written.
+// What a tensor leaves that passes questions 1 to 5: its axes in a list beside their letters, and the answer to question 8,
+// which is asked later, and no flag for the lists.
 #[derive(Clone, Copy)]
 pub struct Asked {
     pub lists: Labelled,
-    pub answer: Answer,
+    pub inside: bool,
 }
 
-// A question before others: its number where it fails, else what they answer.
-pub fn ask(number: u32, passes: bool, others: u32) -> u32
-    ensures { result ≡ cond passes others number }
+// Did questions 1 to 5 pass of both? Where both are refused, the one that is asked sooner refuses. What they leave stays where it is: it is large.
+#[tactic(auto, using(crate::proofs::Sooner::first_passes, crate::proofs::Sooner::second_passes))]
+pub fn both<S: Copy, T: Copy>(a: &Result<S, Refusal>, b: &Result<T, Refusal>) -> Result<(), Refusal>
+    ensures { BothOf a.now b.now result }
 {
-    if passes { others } else { number }
-}
-
-// Of two numbers of questions that failed the one that is asked sooner; 0 is none.
-fn sooner(m: u32, n: u32) -> u32
-    ensures { result ≡ sooner m n }
-{
-    if m == 0 {
-        return n;
-    }
-    if n == 0 {
-        return m;
-    }
-    if m < n { m } else { n }
-}
-
-impl Answer {
-    // The answer of these tensors and of others: a question passes where each tensor passes it.
-    pub fn and(self, others: Answer) -> Answer
-        ensures { (xs ys : List Lent) → AnswerOf xs self → AnswerOf ys others → AnswerOf (xs ++ ys) result }
-    {
-        Answer {
-            number: sooner(self.number, others.number),
-            inside: self.inside & others.inside,
-        }
+    match (a, b) {
+        (Ok(_), Ok(_)) => Ok(()),
+        (Ok(_), Err(refusal)) => Err(*refusal),
+        (Err(refusal), Ok(_)) => Err(*refusal),
+        (Err(first), Err(second)) => Err((*first).min(*second)),
     }
 }
 
 impl Asked {
-    // A tensor that fails a question.
-    fn no(number: u32) -> Asked
-        ensures { result.answer.number ≡ number }
-    {
-        let answer = Answer {
-            number,
-            inside: false,
-        };
-        Asked {
-            answer,
-            lists: Labelled::none(),
-        }
-    }
-
-    // A tensor's answer, from its layout and the length of its slice.
-    pub fn of(l: Layout, length: usize) -> Asked
+    // Questions 1 to 5 of a tensor, from its layout and the length of its slice.
+    #[tactic(auto, unfolding(crate::specs::OwnQuestions::tensor_questions))]
+    pub fn of(l: Layout, length: usize) -> Result<Asked, Refusal>
         ensures { AskedOf l length result }
     {
-        if !rank_fits(l) {
-            return Asked::no(1);
-        }
+        ask(rank_fits(l), Refusal::Rank)?;
+        ask(counts_match(l), Refusal::Counts)?;
         let axes = Axes::of(l);
         let v = valid_of(axes);
-        let counts = counts_match(l);
-        let sizes = sizes_valid(l, v.strides, length);
-        let number = ask(
-            2,
-            counts,
-            ask(3, v.letters, ask(4, v.extents, ask(5, sizes, 0))),
-        );
-        if number != 0 {
-            return Asked::no(number);
-        }
+        ask(v.letters, Refusal::Letters)?;
+        ask(v.extents, Refusal::Extents)?;
+        ask(sizes_valid(l, v.strides, length), Refusal::Sizes)?;
         let lists = Labelled::of(axes);
-        let answer = Answer {
-            number,
+        Ok(Asked {
+            lists,
             inside: all_inside(lists, l.base, length),
-        };
-        Asked { answer, lists }
+        })
     }
 }

@@ -1,50 +1,46 @@
 ghost use Rattle.std.specs.Prelude.{◌≡◌, cond, length};
+ghost use Rattle.thin_lines.specs.Crossed.{sides_sum};
 ghost use Rattle.thin_lines.specs.ThinLines.{cross_sum, lines_added, LinesClear, Goes};
 
 use accumulate::accumulate::Factors;
 use block::block::Block;
 use limits::limits::Limits;
 use store::store::store_column;
-use thin_sums::line_sums::{by_ones, line_sums, line_words};
+use thin_sums::line_sums::{Side, by_ones, line_sums, line_words};
 
 // The sums of each line of a short side's block along a long side's, added to D's words. With `run` the words of the long side stand one after the other along
 // the depth, else along its block.
 fn store_lines(
-    long: &[u32],
-    short: &[u32],
-    starts: &[u64; Limits::DEPTH],
-    begins: &[u64; Limits::DEPTH],
-    filled: usize,
-    l: Block,
-    s: Block,
+    long: &Side,
+    short: &Side,
     run: bool,
     d: &mut [u32],
     from: u64,
-    along: Block,
-    across: Block,
+    along: &Block,
+    across: &Block,
     f: Factors,
 )
-    requires { LinesClear starts.now begins.now filled l s from along across (length long.now) (length short.now) (length d.old)
-        × Goes run filled starts.now l.count l.offsets }
+    requires { LinesClear long.now.starts.now short.now.starts.now long.now.depth long.now.block.now short.now.block.now
+        from along.now across.now (length long.now.src.now) (length short.now.src.now) (length d.old)
+        × (short.now.depth ≡ long.now.depth)
+        × Goes run long.now.depth long.now.starts.now long.now.block.now.count long.now.block.now.offsets }
     ensures { d.new
-        ≡ lines_added f
-        (cross_sum long.now starts.now l.offsets short.now begins.now s.offsets filled)
-        from across.offsets s.count along.offsets l.count d.old }
+        ≡ lines_added f (sides_sum long.now short.now)
+        from across.now.offsets short.now.block.now.count along.now.offsets long.now.block.now.count d.old }
 {
-    let offsets = l.offsets;
-    let places = s.offsets;
-    let to = along.offsets;
-    let lengths = along.lengths;
-    let lines = across.offsets;
-    let n = l.count;
-    let m = s.count;
-    let mut q: usize = 0;
-    while q < m {
-        let line = line_words(short, begins, filled, places[q]);
-        let sums = line_sums(long, starts, filled, &offsets, n, run, &line);
-        let at = std::num::wrapping_add_u64(from, lines[q]);
-        store_column(d, at, &to, &lengths, n, &sums, f);
-        q += 1;
+    for q in 0..short.block.count {
+        let line = line_words(short, short.block.offsets[q]);
+        let sums = line_sums(long, run, &line);
+        let at = from.wrapping_add(across.offsets[q]);
+        store_column(
+            d,
+            at,
+            &along.offsets,
+            &along.lengths,
+            long.block.count,
+            &sums,
+            f,
+        );
     }
 }
 
@@ -71,15 +67,22 @@ pub fn thin_lines(
         from across.offsets s.count along.offsets l.count d.old)
         d.old }
 {
-    let offsets = l.offsets;
     let run = by_ones(starts, filled);
-    if !run {
-        if !by_ones(&offsets, l.count) {
-            return false;
-        }
+    if !run && !by_ones(&l.offsets, l.count) {
+        return false;
     }
-    store_lines(
-        long, short, starts, begins, filled, l, s, run, d, from, along, across, f,
-    );
+    let along_long = Side {
+        src: long,
+        starts,
+        depth: filled,
+        block: &l,
+    };
+    let along_short = Side {
+        src: short,
+        starts: begins,
+        depth: filled,
+        block: &s,
+    };
+    store_lines(&along_long, &along_short, run, d, from, &along, &across, f);
     true
 }

@@ -1,1 +1,2 @@
 pub mod LineSums
+pub mod Sides

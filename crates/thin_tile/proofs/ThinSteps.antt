@@ -18,7 +18,7 @@ use Rattle.words.proofs.Loops.{each_ext, each_turned}
 use Rattle.words.proofs.Store.{put_pass}
 use Rattle.words.proofs.Sums.{sum_to_ext}
 use Rattle.limits.specs.Limits.{block_limit}
-use Rattle.contraction.specs.Operands.{A, B, D}
+use Rattle.contraction.specs.declared.contraction.Operand.TheVariants.{A, B, D}
 use Rattle.groups.specs.Groups.{depth}
 use Rattle.groups.specs.Held.{labels_in}
 use Rattle.plan.specs.declared.plan.Plan.{Plan}
@@ -35,9 +35,10 @@ use Rattle.tiles.specs.Setting.{panel_sum}
 use Rattle.tiles.proofs.Cuts.{panel_width_lem}
 use Rattle.tile_blocks.specs.Side.{Side, left, right, both, tensor_on, tile_on}
 use Rattle.tile_blocks.specs.Planned.{at_batch, plan_setting}
+use Rattle.tile_blocks.specs.PlannedTiles.{SideBlock}
 use Rattle.tile_blocks.specs.TilePlaces.{Begins, Starts}
 use Rattle.tile_packs.specs.TilePacks.{side_width, panel_width}
-use Rattle.tile_packs.proofs.SideBlocks.{SideBlock, in_lane, count_in, place_at, side_packable}
+use Rattle.tile_packs.proofs.SideBlocks.{in_lane, count_in, place_at, side_packable}
 use Rattle.phases.proofs.TileSteps.{place_out, places_in, sums_added}
 use Rattle.thin_lines.specs.ThinLines.{cross_sum, lines_added, LinesClear}
 use Rattle.thin_tile.specs.ThinTile.{TileClear, tile_added}

@@ -1,7 +1,7 @@
 -- A thin tile: what may be assumed of the words that it reads and writes, and what it leaves in D. Inside contracts only.
 -- Assumes nothing.
 use Rattle.std.specs.Prelude.{ℕ, ◌<◌, Bool, false, ◌&&◌, ◌||◌, leb, List, []}
-use Rattle.contraction.specs.Operands.{D}
+use Rattle.contraction.specs.declared.contraction.Operand.TheVariants.{D}
 use Rattle.plan.specs.declared.plan.Plan.{Plan}
 use Rattle.tiles.specs.declared.grid.Tile.{Tile}
 use Rattle.tiles.specs.Cut.{Cut, width}

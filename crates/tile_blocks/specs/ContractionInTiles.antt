@@ -3,7 +3,8 @@
 use Rattle.std.specs.Prelude.{ℕ, List, [], ◌∷◌}
 use Rattle.layout.specs.Layout.{address}
 use Rattle.contraction.specs.declared.contraction.Contraction.{Contraction}
-use Rattle.contraction.specs.Operands.{C, D, tensors}
+use Rattle.contraction.specs.Operands.{named, tensors}
+use Rattle.contraction.specs.declared.contraction.Operand.TheVariants.{C, D}
 use Rattle.groups.specs.Groups.{Label, Group, batch, row, column, depth, group, size}
 use Rattle.meaning.specs.Index.{index}
 use Rattle.meaning.specs.Meaning.{Slices, shape_in, start_of, entry}
@@ -30,7 +31,7 @@ address_at c h i j = address (tensors c D) (output_index c h i j)
 
 -- what the sum of that output index starts from, given the old word
 unfoldable pub start_at : Contraction → Slices → ℕ → ℕ → ℕ → ℕ → ℕ
-start_at c w h i j old = start_of c.named (entry c w C (output_index c h i j)) old
+start_at c w h i j old = start_of (named c) (entry c w C (output_index c h i j)) old
 
 -- a side's entry at a batch count, a count m of its group and a depth count; A has no column label and B no row label
 unfoldable pub entry_on : Contraction → Slices → Side → ℕ → ℕ → ℕ → ℕ

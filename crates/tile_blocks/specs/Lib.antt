@@ -1,4 +1,5 @@
 pub mod Planned
+pub mod PlannedTiles
 pub mod ContractionInTiles
 pub mod Side
 pub mod TilePlaces

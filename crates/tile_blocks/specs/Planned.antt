@@ -3,7 +3,8 @@
 use Rattle.std.specs.Prelude.{◌≡◌, ℕ, ◌+◌, ◌<◌, ◌≤◌, Bool, true, List, slice_index}
 use Rattle.words.specs.Words.{word, word_of}
 use Rattle.limits.specs.Limits.{labels_limit}
-use Rattle.contraction.specs.Operands.{Operand, C, D}
+use Rattle.contraction.specs.declared.contraction.Operand.{Operand}
+use Rattle.contraction.specs.declared.contraction.Operand.TheVariants.{C, D}
 use Rattle.groups.specs.Groups.{Group, batch, row, column, depth}
 use Rattle.groups.specs.Held.{labels_in}
 use Rattle.groups.specs.Foldable.{Foldable}

@@ -1,7 +1,8 @@
 -- The two sides of a product: A with the row group, and B with the column group.
 -- Assumes nothing.
 use Rattle.std.specs.Prelude.{ℕ}
-use Rattle.contraction.specs.Operands.{Operand, A, B}
+use Rattle.contraction.specs.declared.contraction.Operand.{Operand}
+use Rattle.contraction.specs.declared.contraction.Operand.TheVariants.{A, B}
 use Rattle.groups.specs.Groups.{Group, row, column}
 use Rattle.tiles.specs.Cut.{Cut, row_of, column_of}
 

@@ -2,4 +2,5 @@
 #![tactic(auto)]
 
 pub mod plan_grid;
+pub mod planned_tile;
 pub mod tile_places;

@@ -7,14 +7,13 @@ use native.Mathlib.Nat.{le_trans, mul-le-mul_left}
 use native.Mathlib.Omega.{arith}
 use lib.ListN.{get_or}
 use Rattle.limits.specs.Limits.{block_limit}
-use Rattle.contraction.specs.Operands.{Operand}
+use Rattle.contraction.specs.declared.contraction.Operand.{Operand}
 use Rattle.groups.specs.Groups.{depth}
 use Rattle.groups.specs.Held.{labels_in}
 use Rattle.plan.specs.declared.plan.Plan.{Plan}
 use Rattle.plan.specs.Plan.{planned}
 use Rattle.block.specs.declared.block.Block.{Block}
 use Rattle.block.specs.Places.{place_of, InLane}
-use Rattle.scatter.specs.ScatterVectors.{Blocked}
 use Rattle.stretch.specs.StretchLanes.{lanes_stored}
 use Rattle.stretch.proofs.StretchLanes.{lanes_ext}
 use Rattle.pack.specs.PackNeeds.{Packable}
@@ -22,14 +21,11 @@ use Rattle.tiles.specs.declared.grid.Tile.{Tile}
 use Rattle.tiles.specs.Cut.{Cut}
 use Rattle.tiles.specs.Grid.{Fits}
 use Rattle.tiles.proofs.Cuts.{width_le, place_in_lem}
-use Rattle.tile_blocks.specs.Side.{Side, left, right, tensor_on, group_on, size_on, tile_on}
+use Rattle.tile_blocks.specs.Side.{Side, left, right, tensor_on, size_on, tile_on}
 use Rattle.tile_blocks.specs.Planned.{at_batch, place_in}
+use Rattle.tile_blocks.specs.PlannedTiles.{SideBlock}
 use Rattle.tile_blocks.specs.TilePlaces.{block_in, Begins, Starts}
-use Rattle.tile_packs.specs.TilePacks.{side_width, panel_width, SideClear, side_lanes}
-
--- the code's block of a side's counts in a tensor
-abbrev pub SideBlock : Plan → Cut → Tile → Operand → Side → Block → Type 0
-SideBlock p G x o s = Blocked o (labels_in (planned p (group_on s))) (block_in x s * tile_on G s) (side_width G x s)
+use Rattle.tile_packs.specs.TilePacks.{panel_width, SideClear, side_lanes}
 
 -- no lane is wider than a block can be
 narrow : (s : Side) {G : Cut} → Fits G → tile_on G s ≤ block_limit

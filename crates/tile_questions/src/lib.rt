@@ -1,4 +1,4 @@
 // Questions 10 to 13, about the tiles of a contraction.
 #![tactic(auto)]
 
-pub mod refusals;
+pub mod tile_refusals;

@@ -7,7 +7,8 @@ use lib.ListN.{get_or}
 use Rattle.words.specs.Sums.{All}
 use Rattle.words.proofs.Tabulate.{tabulate_ext}
 use Rattle.contraction.specs.declared.contraction.Contraction.{Contraction}
-use Rattle.contraction.specs.Operands.{A, B, C, tensors}
+use Rattle.contraction.specs.Operands.{named, tensors}
+use Rattle.contraction.specs.declared.contraction.Operand.TheVariants.{A, B, C}
 use Rattle.questions.proofs.Ready.{AllPassed}
 use Rattle.meaning.specs.Meaning.{Slices, lengths_in, start_of, entry}
 use Rattle.plan.specs.declared.plan.Plan.{Plan}
@@ -51,19 +52,19 @@ module _ (c : Contraction) (z : Sizes) (w : Slices) (ok : AllPassed (tensors c) 
   read_is left h m k bh bm bk = ap (λ (x : ℕ). get_or (w A) x 0) (side_entry c (lengths_in c w) ok p q left h m k bh bm bk).is
   read_is right h m k bh bm bk = ap (λ (x : ℕ). get_or (w B) x 0) (side_entry c (lengths_in c w) ok p q right h m k bh bm bk).is
 
-  settings_agree : Agree (plan_setting p (cut_of c z) c.named c.alpha c.beta (w A) (w B) (w C)) (setting c z w)
+  settings_agree : Agree (plan_setting p (cut_of c z) (named c) c.alpha c.beta (w A) (w B) (w C)) (setting c z w)
   unfolding plan_setting setting start_at entry
   settings_agree =
       record {
         cut = refl;
         alpha = refl;
-        start = λ h i j old bh bi bj. ap (λ (x : ℕ). c.beta * start_of c.named (get_or (w C) x 0) old) (out_entry c (lengths_in c w) ok p q C refl h i j bh bi bj).is;
+        start = λ h i j old bh bi bj. ap (λ (x : ℕ). c.beta * start_of (named c) (get_or (w C) x 0) old) (out_entry c (lengths_in c w) ok p q C refl h i j bh bi bj).is;
         addr = λ h i j bh bi bj. reaches_d c (lengths_in c w) ok p q h i j bh bi bj;
         term = λ h i j k bh bi bj bk. rw (read_is left h i k bh bi bk, read_is right h j k bh bj bk);
       }
 
   module _ (ns : List ℕ) (below : All (λ n. n < total (cut_of c z)) ns) where
-    pub walk_agrees : (d : List ℕ) → walk (plan_setting p (cut_of c z) c.named c.alpha c.beta (w A) (w B) (w C)) ns d ≡ walk (setting c z w) ns d
+    pub walk_agrees : (d : List ℕ) → walk (plan_setting p (cut_of c z) (named c) c.alpha c.beta (w A) (w B) (w C)) ns d ≡ walk (setting c z w) ns d
     unfolding plan_setting
     walk_agrees d = walk_same settings_agree ns below d
 

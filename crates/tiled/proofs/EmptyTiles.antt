@@ -15,7 +15,8 @@ use Rattle.layout.specs.Layout.{axes}
 use Rattle.entries.specs.EntryQuestions.{has_entries}
 use Rattle.entries.proofs.Bounds.{in_range_some}
 use Rattle.contraction.specs.declared.contraction.Contraction.{Contraction}
-use Rattle.contraction.specs.Operands.{D, four, tensors}
+use Rattle.contraction.specs.Operands.{four, tensors}
+use Rattle.contraction.specs.declared.contraction.Operand.TheVariants.{D}
 use Rattle.pack.proofs.Packing.{packed_unfilled}
 use Rattle.tiles.specs.declared.grid.Sizes.{Sizes}
 use Rattle.tiles.specs.Cut.{width, InSizes, KB, total, panel_of}

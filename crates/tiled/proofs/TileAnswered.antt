@@ -10,7 +10,7 @@ use lib.Dec.{eqb, leb, ltb}
 use lib.ListN.{length}
 use borrow.Author.Tests.{le-leb}
 use Rattle.contraction.specs.declared.contraction.Contraction.{Contraction}
-use Rattle.contraction.specs.Operands.{D}
+use Rattle.contraction.specs.declared.contraction.Operand.TheVariants.{D}
 use Rattle.tensor_answers.specs.Asking.{Question, refusal}
 use Rattle.tensor_answers.proofs.Refusal.{refusal_next, refusal_first, answers_no, answers_yes, refusal_both}
 use Rattle.meaning.specs.Meaning.{Slices}

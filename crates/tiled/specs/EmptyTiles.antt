@@ -5,7 +5,8 @@ use Rattle.words.specs.Words.{word}
 use Rattle.layout.specs.Layout.{axes}
 use Rattle.entries.specs.EntryQuestions.{has_entries}
 use Rattle.contraction.specs.declared.contraction.Contraction.{Contraction}
-use Rattle.contraction.specs.Operands.{D, four, tensors}
+use Rattle.contraction.specs.Operands.{four, tensors}
+use Rattle.contraction.specs.declared.contraction.Operand.TheVariants.{D}
 use Rattle.tiles.specs.declared.grid.Sizes.{Sizes}
 use Rattle.tiles.specs.Cut.{InSizes, KB, total}
 use Rattle.tiles.specs.Progress.{old, final, done, state_at}

@@ -6,7 +6,7 @@ use Rattle.contraction.specs.Operands.{four, three, contraction_if, contraction_
 use Rattle.tiles.specs.declared.grid.Sizes.{Sizes}
 use Rattle.tiled.specs.TileCall.{tile_call, state_call}
 
--- "the form without C behaves as before": a layout and words that stand in C's place are neither asked about nor read
+-- "the form without C behaves as before": words that stand in C's place are neither asked about nor read, and there is no layout in C's place
 pub record TilesWithoutC (a b c d : Layout) (alpha beta : ℕ) (z : Sizes) (wa wb wc wd : List ℕ) : Type 0 where
   pub tiles : (work : List ℕ) (t budget : ℕ)
       → tile_call (contraction_if false a b c d alpha beta) z (four wa wb wc wd) work t budget

@@ -41,7 +41,7 @@ pub struct Tile {
 }
 
 // Of an output index: no panel done, some, or all.
-#[derive(Clone, Copy)]
+#[derive(Clone, Copy, PartialEq, Eq)]
 pub enum State {
     Old,
     Part,
@@ -53,7 +53,7 @@ fn blocks_in(n: u32, b: u32) -> u32
     requires { (0 < b) × (n + b < 2 ^ 32) }
     ensures { result ≡ blocks n b }
 {
-    (n + b - 1) / b
+    n.div_ceil(b)
 }
 
 // How many of n counts block k of b counts holds.
@@ -62,7 +62,7 @@ pub fn width_of(n: u32, b: u32, k: u32) -> u32
     ensures { result ≡ width n b k }
 {
     let left = n - k * b;
-    if left < b { left } else { b }
+    left.min(b)
 }
 
 impl Grid {
@@ -73,7 +73,7 @@ impl Grid {
         let row_blocks = blocks_in(counts.row, sizes.rows);
         let column_blocks = blocks_in(counts.column, sizes.cols);
         let cut = blocks_in(counts.depth, sizes.depth);
-        let panels = if cut == 0 { 1 } else { cut };
+        let panels = cut.max(1);
         let total = (counts.batch as u64)
             * (column_blocks as u64)
             * (panels as u64)

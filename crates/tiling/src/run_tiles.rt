@@ -5,7 +5,7 @@ ghost use Rattle.tiles.specs.Setting.{walk, tiles_from};
 ghost use Rattle.tile_blocks.specs.Planned.{GridOf, Clear, read_in, plan_setting};
 ghost use Rattle.tiling.specs.Work.{packed_last};
 
-use one_tile::tile::run_tile;
+use one_tile::tile::{TiledCall, run_tile};
 use plan::plan::Plan;
 use tile_packs::packs::pad_blocks;
 use tiles::grid::Grid;
@@ -36,15 +36,23 @@ pub fn run_tiles(
         × (work.new ≡ packed_last (cut_in g) (read_in p a.now b.now) (tiles_from done count) work.old) }
 {
     let end = done + count;
+    let call = TiledCall {
+        plan: &p,
+        grid: &g,
+        named,
+        alpha,
+        beta,
+        a,
+        b,
+        c,
+    };
     let mut held = false;
-    let mut t = done;
-    while t < end {
+    for t in done..end {
         let last = t + 1 == end;
-        held = run_tile(p, g, named, alpha, beta, a, b, c, d, work, t, held, last);
-        t += 1;
+        held = run_tile(call, d, work, t, held, last);
     }
     if count > 0 {
         pad_blocks(g, g.tile(end - 1), work);
     }
-    t
+    end
 }

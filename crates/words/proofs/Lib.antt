@@ -1,3 +1,4 @@
+pub mod Closures
 pub mod Filled
 pub mod Fronts
 pub mod Lanes
@@ -5,7 +6,6 @@ pub mod Lists
 pub mod Loops
 pub mod Modular
 pub mod Store
-pub mod Strides
 pub mod Sums
 pub mod Tabulate
 pub mod Whole

@@ -1,6 +1,6 @@
 -- Laws of sums, products and tests over a list, and of sums over the counts below a bound.
 -- Assumes nothing.
-use Rattle.std.proofs.Common.{◌≡◌, ℕ, zero, suc, ◌+◌, ◌*◌, ◌<◌, ◌≤◌, Bool, true, false, not, ◌&&◌, ◌||◌, T, List, [], ◌∷◌, ◌++◌, map, drop, sym, refl, true≢false, add-zero, add_assoc, add-suc, mul-le-mul_right, mul-le-mul, mul-le-mul_left, mul-pos, mul-zero, mul-suc, arith}
+use Rattle.std.proofs.Common.{◌≡◌, ℕ, zero, suc, ◌+◌, ◌*◌, ◌<◌, ◌≤◌, Bool, true, false, not, ◌&&◌, ◌||◌, T, List, [], ◌∷◌, ◌++◌, map, length, get_or, take, drop, sym, refl, true≢false, add-zero, add_assoc, add-suc, mul_assoc, mul-le-mul_right, mul-le-mul, mul-le-mul_left, mul-pos, mul-zero, mul-suc, arith}
 use Rattle.words.specs.Sums.{sum_of, product, sum_to, every, All}
 use Rattle.words.specs.Lists.{keep, cons_if}
 
@@ -12,6 +12,11 @@ module _ {X : Type 0} where
   pub sum_of_add : (f g : X → ℕ) (xs : List X) → sum_of (λ x. f x + g x) xs ≡ sum_of f xs + sum_of g xs
   sum_of_add f g [] = refl
   sum_of_add f g (x ∷ xs) = omega (arith, sum_of_add f g xs)
+
+  -- one member more behind them
+  pub sum_of_behind : (f : X → ℕ) (xs : List X) (x : X) → sum_of f (xs ++ x ∷ []) ≡ sum_of f xs + f x
+  sum_of_behind f [] x = omega arith
+  sum_of_behind f (y ∷ xs) x = omega (arith, sum_of_behind f xs x)
 
   pub sum_of_zero : (xs : List X) → sum_of (λ x. 0) xs ≡ 0
   sum_of_zero [] = refl
@@ -80,11 +85,21 @@ pub all_every : {X : Type 0} (p : X → Bool) (xs : List X) → All (λ x. T (p 
 all_every p [] h = tt
 all_every p (x ∷ xs) h = and_join (p x) (every p xs) h.0 (all_every p xs h.1)
 
--- a test that passes at every member passes at every member from a place on
 -- tests that agree at every element agree
 pub every_same : {X : Type 0} (p q : X → Bool) (xs : List X) → All (λ x. p x ≡ q x) xs → every p xs ≡ every q xs
 every_same p q [] h = refl
 every_same p q (x ∷ xs) h = rw (h.0, every_same p q xs h.1)
+
+-- a test that passes at every member passes at one, at every member from a place on, and at every member before a place
+pub every_at : {X : Type 0} (p : X → Bool) (xs : List X) (i : ℕ) (d : X) → T (every p xs) → i < length xs → T (p (get_or xs i d))
+every_at p [] i d t h = absurd (omega arith)
+every_at p (x ∷ xs) zero d t h = (and_split (p x) (every p xs) t).0
+every_at p (x ∷ xs) (suc i) d t h = every_at p xs i d (and_split (p x) (every p xs) t).1 (omega arith)
+
+pub every_take : {X : Type 0} (p : X → Bool) (i : ℕ) (xs : List X) → T (every p xs) → T (every p (take i xs))
+every_take p zero xs t = tt
+every_take p (suc i) [] t = tt
+every_take p (suc i) (x ∷ xs) t = let h = and_split (p x) (every p xs) t in and_join (p x) (every p (take i xs)) h.0 (every_take p i xs h.1)
 
 pub every_drop : {X : Type 0} (p : X → Bool) (i : ℕ) (xs : List X) → T (every p xs) → T (every p (drop i xs))
 every_drop p zero xs t = t
@@ -114,6 +129,11 @@ module _ {X : Type 0} (f : X → ℕ) where
       go : (b : Bool) → product f (keep p xs) ≤ product f xs → product f (cons_if b x (keep p xs)) ≤ f x * product f xs
       go true r = mul-le-mul_left (f x) r
       go false r = omega (arith, r, mul-le-mul_right (product f xs) (h x))
+
+  -- one factor more behind them
+  pub product_behind : (xs : List X) (x : X) → product f (xs ++ x ∷ []) ≡ product f xs * f x
+  product_behind [] x = omega arith
+  product_behind (y ∷ xs) x = rw (product_behind xs x) (sym (mul_assoc (f y) (product f xs) (f x)))
 
   pub product_pos : ((x : X) → 0 < f x) → (xs : List X) → 0 < product f xs
   product_pos h [] = omega arith

@@ -1,6 +1,7 @@
 -- Lists made of counts: their lengths and members, one member more at the end, and what is left from a place on.
 -- Assumes nothing.
-use Rattle.std.proofs.Common.{◌≡◌, ℕ, zero, suc, ◌+◌, ◌-◌, ◌<◌, ◌≤◌, List, [], ◌∷◌, ◌++◌, map, length, get_or, drop, set, sym, refl, ap, ◌∙◌, append_assoc, append-nil, add-zero, add-suc, add-one, arith, get_or-set_other, get_or-set_same, ext_get_or}
+use Rattle.std.proofs.Common.{◌≡◌, ℕ, zero, suc, ◌+◌, ◌-◌, ◌<◌, ◌≤◌, List, [], ◌∷◌, ◌++◌, map, length, get_or, take, drop, set, sym, refl, ap, ◌∙◌, append_assoc, append-nil, add-zero, add-suc, add-one, arith, get_or-set_other, get_or-set_same, ext_get_or, length-take-le}
+use Rattle.std.proofs.lemmas.List.{get_or-take}
 use Rattle.words.specs.Sums.{All}
 use Rattle.words.specs.Lists.{tabulate, first_of}
 
@@ -57,6 +58,12 @@ module _ {X : Type 0} where
   -- all items of a list
   pub first_of_all : (d : X) (xs : List X) (n : ℕ) → length xs ≡ n → first_of n d xs ≡ xs
   first_of_all d xs n e = ext_get_or d _ xs (length_first_of n d xs ∙ sym e) (λ i h. get_or_first_of n d xs i (omega (arith, length_first_of n d xs)))
+
+  -- those of an array that is longer
+  pub first_of_take : (d : X) (xs : List X) (n : ℕ) → n ≤ length xs → take n xs ≡ first_of n d xs
+  first_of_take d xs n h =
+      ext_get_or d _ _ (length-take-le n xs h ∙ sym (length_first_of n d xs))
+      (λ i k. let l : i < n = omega (arith, length-take-le n xs h) in get_or-take n xs i d l ∙ sym (get_or_first_of n d xs i l))
 
   -- one more, stored behind them
   pub first_of_push : (d : X) (xs : List X) (n : ℕ) (v : X) → n < length xs → first_of (n + 1) d (set xs n v) ≡ first_of n d xs ++ v ∷ []

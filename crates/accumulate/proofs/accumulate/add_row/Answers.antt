@@ -5,4 +5,4 @@ use Rattle.accumulate.proofs.accumulate.add_row.Goals as goal
 
 pub returns : goal.returns
 unfolding put
-returns c = rw (← c.wrapping_add_u64-place.ensures.value, ← c.added.ensures)
+returns c = rw (← c.added.ensures)

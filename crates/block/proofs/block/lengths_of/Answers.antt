@@ -1,5 +1,5 @@
 -- `lengths_of` meets its contract. The invariant: `len` is the length from place i on, `next` its offset and `after` the step from it, if a place follows, and
--- each place from i on has its length. A turn puts the length of the place before. The measure is i.
+-- each place from i on has its length. A turn puts the length of the place before.
 use Rattle.std.proofs.Common.{◌≡◌, ℕ, zero, suc, ◌+◌, ◌-◌, ◌<◌, ◌≤◌, cond, eqb, List, length, get_or, set, replicate, sym, refl, ◌∙◌, le_trans, arith, length-set, get_or-set_other, get_or-set_same}
 use native.Mathlib.Decide.{dec_lt}
 use Rattle.limits.specs.Limits.{block_limit}
@@ -38,20 +38,20 @@ returns-then-n-eq0 c =
 pub loop-i-init : goal.loop-i-init
 loop-i-init c =
     let n = c.args.n in
-    let last : longest_from n c.args.offsets.now (n - 1) ≡ 1 = last_one c.args.offsets.now n c.requires (n - 1) (omega arith) in (
-      omega arith,
-      simp length-set refl,
-      sym last,
-      refl,
-      λ h. absurd (omega arith),
-      one_more (replicate 64 0) (n - 1) (longest_from n c.args.offsets.now) refl (omega (arith, c.requires)) (sym last)
-          (λ j h. zeros 64 j ∙ sym (past_end c.args.offsets.now n c.requires j (omega arith))),
-    )
+    let last : longest_from n c.args.offsets.now (n - 1) ≡ 1 = last_one c.args.offsets.now n c.requires (n - 1) (omega arith) in
+    record {
+      whole = simp length-set refl;
+      len = sym last;
+      next = refl;
+      after = λ h. absurd (omega arith);
+      each = one_more (replicate 64 0) (n - 1) (longest_from n c.args.offsets.now) refl (omega (arith, c.requires)) (sym last)
+          (λ j h. zeros 64 j ∙ sym (past_end c.args.offsets.now n c.requires j (omega arith)));
+    }
 
 pub longer-len-requires : goal.longer-len-requires
 longer-len-requires c =
     let l = c.loop-i in
-    rw l.invariant.2 (le_trans (from_few c.args.offsets.now c.args.n c.requires l.i) c.requires)
+    rw l.invariant.len (le_trans (from_few c.args.offsets.now c.args.n c.requires l.i) c.requires)
 
 pub loop-i-preserved : goal.loop-i-preserved
 loop-i-preserved c =
@@ -59,12 +59,12 @@ loop-i-preserved c =
     let o = c.args.offsets.now in
     let n = c.args.n in
     let a : l.i - 1 + 1 ≡ l.i = omega arith in
-    let step : StepOf (get_or o (l.i - 1) 0) (get_or o l.i 0) c.step_from-step.result = rw l.invariant.3 at c.step_from-step.ensures in
-    let is : c.longer-len.result ≡ longest_from n o (l.i - 1) = c.longer-len.ensures ∙ turn o n c.requires l.i (omega arith) l.invariant.0 l.invariant.2 step l.invariant.4 in (
-      omega arith,
-      simp length-set l.invariant.1,
-      is,
-      refl,
-      λ h. rw a step,
-      one_more l.lengths (l.i - 1) (longest_from n o) l.invariant.1 (omega (arith, c.requires)) is (λ j h. l.invariant.5 j (omega arith)),
-    )
+    let step : StepOf (get_or o (l.i - 1) 0) (get_or o l.i 0) c.step_from-step.result = rw l.invariant.next at c.step_from-step.ensures in
+    let is : c.longer-len.result ≡ longest_from n o (l.i - 1) = c.longer-len.ensures ∙ turn o n c.requires l.i (omega arith) (omega arith) l.invariant.len step l.invariant.after in
+    record {
+      whole = simp length-set l.invariant.whole;
+      len = is;
+      next = refl;
+      after = λ h. rw a step;
+      each = one_more l.lengths (l.i - 1) (longest_from n o) l.invariant.whole (omega (arith, c.requires)) is (λ j h. l.invariant.each j (omega arith));
+    }

@@ -7,7 +7,7 @@ use native.Mathlib.Nat.{add_assoc}
 use native.Mathlib.Omega.{arith}
 use Rattle.words.specs.Loops.{each}
 use Rattle.words.proofs.Loops.{each_more}
-use Rattle.columns.specs.Stored.{column_stored}
+use Rattle.columns.specs.LineStores.{lines_stored}
 use Rattle.columns.proofs.column_stores.next_eight.Goals as goal
 
 -- four turns and four more
@@ -22,6 +22,6 @@ returns c =
     let r = c.next_four-middle in
     let q = c.next_four in
     let e : a.c + 4 + 4 ≡ a.c + 8 = omega arith in (
-      four_more (column_stored a.work.now a.p a.f a.t.from a.columns.now a.rows.now a.t.rows) a.c a.d.now r.ensures.0 q.ensures.0,
+      four_more (lines_stored a.work.now a.p a.f a.t.now) a.c a.d.now r.ensures.0 q.ensures.0,
       rw e at q.ensures.1,
     )

@@ -12,6 +12,7 @@ use Rattle.kernel.specs.Kernel.{column_sum, ColumnSums}
 use Rattle.accumulate.specs.declared.accumulate.Factors.{Factors}
 use Rattle.accumulate.specs.Added.{added_to}
 use Rattle.columns.specs.declared.column_stores.Packing.{Packing}
+use Rattle.columns.specs.LineStores.{lines_stored}
 use Rattle.columns.specs.Stored.{column_stored}
 use Rattle.columns.proofs.Stores.{storable, next_column, column_stored_lem}
 use Rattle.columns.proofs.column_stores.next_four.Goals as goal
@@ -51,13 +52,14 @@ store_next-requires c =
 pub returns : goal.returns
 returns c =
     let a = c.args in
-    let first : a.at ≡ place_of a.t.from a.columns.now (a.c + 0) = c.requires.1 ∙ ap (place_of a.t.from a.columns.now) (sym (add-zero a.c)) in
+    let t = a.t.now in
+    let first : a.at ≡ place_of t.from t.columns.now.offsets (a.c + 0) = c.requires.1 ∙ ap (place_of t.from t.columns.now.offsets) (sym (add-zero a.c)) in
     let second = next_column c.requires.2 a.c (a.c + 1) refl (omega arith) c.requires.1 c.store_next-at.ensures.1 in
     let third = next_column c.requires.2 (a.c + 1) (a.c + 2) (omega arith) (omega arith) second c.store_next-at-2.ensures.1 in
     let fourth = next_column c.requires.2 (a.c + 2) (a.c + 3) (omega arith) (omega arith) third c.store_next-at-3.ensures.1 in
     let sums = c.four_columns-s.ensures in
-    let put_at = stored a.work.now a.p a.f a.t.from a.columns.now a.rows.now a.t.rows a.c in (
-      four_turns (λ q. column_stored a.work.now a.p a.f a.t.from a.columns.now a.rows.now a.t.rows (a.c + q))
+    let put_at = stored a.work.now a.p a.f t.from t.columns.now.offsets t.rows.now.offsets t.rows.now.count a.c in (
+      four_turns (λ q. lines_stored a.work.now a.p a.f t (a.c + q))
           (c.store_next-at.ensures.0 ∙ put_at 0 _ _ a.d.now first sums.first)
           (c.store_next-at-2.ensures.0 ∙ put_at 1 _ _ c.store_next-at.new.d second sums.second)
           (c.store_next-at-3.ensures.0 ∙ put_at 2 _ _ c.store_next-at-2.new.d third sums.third)

@@ -28,7 +28,7 @@ loop-m-init c = (
   refl,
   refl,
   rw mul-zero,
-  λ h. first_run _ _ c.requires.outputs c.tabulate-labels.ensures c.args.base
+  λ h. first_run _ _ c.requires.outputs c.tabulate-rows.ensures c.args.base
       (words_fit c.args.base.words _ c.well_formed.1.1.1.1.1.1.1.0.1.1.0.1.1),
 )
 
@@ -43,5 +43,8 @@ loop-m-preserved c =
       f.auto.d ∙ l.invariant.2,
       turn x.output.len l.m f.result (λ n. filled x.named x.alpha x.beta (over x.depth) x.a.now x.b.now x.c.now (places x.base (over x.output) n))
           x.d.now l.invariant.3 f.ensures.2,
-      λ i. c.advance_by-at.ensures.next _ _ _ (behind c.requires.outputs x.base (l.m + f.result) i) c.tabulate-labels.ensures.tabled (l.invariant.4 h),
+      λ i. c.advance_by-at.ensures.next _ _ _ (behind c.requires.outputs x.base (l.m + f.result) i) c.tabulate-rows.ensures.tabled (l.invariant.4 h),
     )
+
+pub invariant_of-depths-clause-carried : goal.invariant_of-depths-clause-carried
+invariant_of-depths-clause-carried c = c.tabulate-depth_rows.ensures

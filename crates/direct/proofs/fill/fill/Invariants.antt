@@ -16,7 +16,7 @@ use Rattle.direct.proofs.fill.fill.Given as goal
 abbrev pub invariant-loop-m : goal.invariant-loop-m
 invariant-loop-m l =
     (l.m ≤ l.output.runs) × (length l.digits ≡ labels_limit) × (length l.d ≡ length l.initial.d)
-    × (l.d ≡ each (l.output.len * l.m) (λ n. filled l.named l.alpha l.beta (over l.depth) l.a l.b l.c (places l.base (over l.output) n)) l.initial.d)
+    × (l.d ≡ each (l.output.len * l.m) (λ n. filled l.named l.alpha l.beta (over l.fn.depth) l.a l.b l.c (places l.base (over l.output) n)) l.initial.d)
     × (l.m < l.output.runs → Stands (drop 1 (over l.output)) (words_in l.base) l.m l.digits l.at)
 
 abbrev pub decreases-loop-m : goal.decreases-loop-m

@@ -1,7 +1,6 @@
--- `stepped_sum` meets its contract. The loop's invariant: v is at most `len`, i and j are v steps from where A and B begin, and the sum is the word of the dot product up to v.
--- The measure is how many places are left.
+-- `stepped_sum` meets its contract. The loop's invariant: i and j are v steps from where A and B begin, and the sum is the word of the dot product up to v.
 -- Assumes nothing.
-use Rattle.std.proofs.Common.{◌≡◌, ◌-◌, ◌≤◌}
+use Rattle.std.proofs.Common.{◌≡◌}
 use Rattle.words.specs.Words.{word}
 use Rattle.words.specs.Stepped.{stepped}
 use Rattle.dots.specs.Dot.{dot}
@@ -9,7 +8,4 @@ use Rattle.dots.proofs.dot.stepped_sum.Given as goal
 
 abbrev pub invariant-loop-v : goal.invariant-loop-v
 invariant-loop-v l =
-    (l.v ≤ l.len) × (l.i ≡ stepped l.from_a l.step_a l.v) × (l.j ≡ stepped l.from_b l.step_b l.v) × (l.sum ≡ word 32 (dot l.v (stepped l.from_a l.step_a) l.a (stepped l.from_b l.step_b) l.b))
-
-abbrev pub decreases-loop-v : goal.decreases-loop-v
-decreases-loop-v l = l.len - l.v
+    (l.i ≡ stepped l.from_a l.step_a l._v) × (l.j ≡ stepped l.from_b l.step_b l._v) × (l.sum ≡ word 32 (dot l._v (stepped l.from_a l.step_a) l.a (stepped l.from_b l.step_b) l.b))

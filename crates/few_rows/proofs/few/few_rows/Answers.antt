@@ -1,5 +1,5 @@
 -- `few_rows` meets its contract. The invariant: where a column is left, `at` is the place of column c, and D's words are those that c columns leave, their sums taken
--- from where the rows' sums stand. These are the tile's. The measure is how many columns are left.
+-- from where the rows' sums stand. These are the tile's.
 use Rattle.std.proofs.Common.{◌≡◌, ℕ, ◌+◌, ◌*◌, ◌<◌, ◌≤◌, List, refl, ◌∙◌, le_trans, le_refl, mul-le-mul_left, arith}
 use Rattle.words.specs.Loops.{each}
 use Rattle.words.proofs.Loops.{each_ext, each_next}
@@ -43,28 +43,33 @@ taken f from at columns rows m c few d h a k q = q ∙ each_ext m (λ r b xs. rw
 
 pub loop-c-init : goal.loop-c-init
 unfolding each
-loop-c-init c = (omega arith, refl, refl, λ h. c.wrapping_add_u64-at.ensures.value, refl)
+loop-c-init c = (refl, refl, λ h. refl, refl)
 
 pub loop-c-preserved : goal.loop-c-preserved
 loop-c-preserved c =
     let a = c.args in
+    let t = a.t.now in
+    let rows = t.rows.now in
+    let columns = t.columns.now in
     let l = c.loop-c in
-    let h : l.c < a.t.columns = omega arith in
-    let at = l.invariant.3 h in
+    let h : l.c < columns.count = omega arith in
+    let at = l.invariant.2 h in
     let few = c.sums_of_rows-few.result in
     let k = c.take_column.ensures in
     let r = c.store_few in (
-      omega arith,
-      r.auto.d ∙ l.invariant.1,
-      k.len ∙ l.invariant.2,
-      λ i. reaches a.t.from a.columns.now _ c.requires.stepped (few_columns c.requires) l.c (l.c + 1) refl i at c.next_place-at.ensures,
-      each_next (stores a.f a.t.from a.columns.now a.rows.now a.t.rows few) l.c a.d.now l.invariant.4
-          (taken a.f a.t.from l.at a.columns.now a.rows.now a.t.rows l.c few l.d c.requires.few at k r.ensures),
+      r.auto.d ∙ l.invariant.0,
+      k.len ∙ l.invariant.1,
+      λ i. reaches t.from columns.offsets _ c.requires.stepped (few_columns c.requires) l.c (l.c + 1) refl i at c.next_place-at.ensures,
+      each_next (stores a.f t.from columns.offsets rows.offsets rows.count few) l.c a.d.now l.invariant.3
+          (taken a.f t.from l.at columns.offsets rows.offsets rows.count l.c few l.d c.requires.few at k r.ensures),
     )
 
 pub returns : goal.returns
 returns c =
     let a = c.args in
+    let t = a.t.now in
+    let rows = t.rows.now in
+    let columns = t.columns.now in
     let l = c.loop-c in
-    let e : l.c ≡ a.t.columns = omega arith in
-    rw e at l.invariant.4 ∙ stores_are a.work.now a.p a.f a.t.from a.columns.now a.rows.now a.t.rows a.t.columns _ a.d.now c.sums_of_rows-few.ensures
+    let e : l.c ≡ columns.count = omega arith in
+    rw e at l.invariant.3 ∙ stores_are a.work.now a.p a.f t.from columns.offsets rows.offsets rows.count columns.count _ a.d.now c.sums_of_rows-few.ensures

@@ -1,7 +1,7 @@
 -- `few_rows` meets its contract. The invariant: where a column is left, `at` is the place of column c, and D's words are those that c columns leave, their sums taken
--- from where the rows' sums stand. These are the tile's. The measure is how many columns are left.
+-- from where the rows' sums stand. These are the tile's.
 -- Assumes nothing.
-use Rattle.std.proofs.Common.{◌≡◌, ℕ, ◌+◌, ◌-◌, ◌*◌, ◌<◌, ◌≤◌, List, length, get_or}
+use Rattle.std.proofs.Common.{◌≡◌, ℕ, ◌+◌, ◌*◌, ◌<◌, List, length, get_or}
 use Rattle.words.specs.Loops.{each, put}
 use Rattle.limits.specs.Limits.{block_limit}
 use Rattle.block.specs.Places.{place_of}
@@ -15,8 +15,5 @@ stores f from columns rows m few c = each m (λ r. put (added_to f (get_or few (
 
 abbrev pub invariant-loop-c : goal.invariant-loop-c
 invariant-loop-c l =
-    (l.c ≤ l.t.columns) × (length l.d ≡ length l.initial.d) × (length l.sums ≡ block_limit) × (l.c < l.t.columns → l.at ≡ place_of l.t.from l.columns l.c)
-    × (l.d ≡ each l.c (stores l.f l.t.from l.columns l.rows l.t.rows l.few) l.initial.d)
-
-abbrev pub decreases-loop-c : goal.decreases-loop-c
-decreases-loop-c l = l.t.columns - l.c
+    (length l.d ≡ length l.initial.d) × (length l.sums ≡ block_limit) × (l.c < l.t.columns.now.count → l.at ≡ place_of l.t.from l.t.columns.now.offsets l.c)
+    × (l.d ≡ each l.c (stores l.f l.t.from l.t.columns.now.offsets l.t.rows.now.offsets l.t.rows.now.count l.few) l.initial.d)

@@ -1,5 +1,4 @@
--- `sums_of_rows` meets its contract. The invariant: the sums of the first r rows stand at their places. A turn puts those of row r. The measure is how many rows are
--- left.
+-- `sums_of_rows` meets its contract. The invariant: the sums of the first r rows stand at their places. A turn puts those of row r.
 use Rattle.std.proofs.Common.{◌≡◌, ℕ, ◌+◌, ◌*◌, ◌<◌, List, get_or, ◌∙◌, arith}
 use native.Mathlib.Decide.{ℕ_discrete}
 use Rattle.words.specs.Words.{word}
@@ -28,4 +27,4 @@ loop-r-preserved c =
     let l = c.loop-r in
     let h : l.r < c.args.m = omega arith in
     let q = c.put_row.ensures in
-    (omega arith, q.len ∙ l.invariant.1, turn l.r c.args.n (tile_sum c.args.work.now c.args.p) (omega (arith, c.requires.0)) l.invariant.2 (sums_are c.args.work.now c.args.p l.r c.args.n c.row_lanes-sums.ensures) q)
+    (q.len ∙ l.invariant.0, turn l.r c.args.n (tile_sum c.args.work.now c.args.p) (omega (arith, c.requires.0)) l.invariant.1 (sums_are c.args.work.now c.args.p l.r c.args.n c.row_lanes-sums.ensures) q)

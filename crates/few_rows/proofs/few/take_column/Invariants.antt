@@ -1,10 +1,7 @@
--- `take_column` meets its contract. The invariant: the first r words are the column's. The measure is how many of the four are left.
+-- `take_column` meets its contract. The invariant: the first r words are the column's.
 -- Assumes nothing.
-use Rattle.std.proofs.Common.{◌≡◌, ℕ, ◌+◌, ◌-◌, ◌*◌, ◌<◌, ◌≤◌, length, get_or}
+use Rattle.std.proofs.Common.{◌≡◌, ℕ, ◌+◌, ◌*◌, ◌<◌, length, get_or}
 use Rattle.few_rows.proofs.few.take_column.Given as goal
 
 abbrev pub invariant-loop-r : goal.invariant-loop-r
-invariant-loop-r l = (l.r ≤ 4) × (length l.sums ≡ length l.initial.sums) × ((k : ℕ) → k < l.r → get_or l.sums k 0 ≡ get_or l.few (4 * l.c + k) 0)
-
-abbrev pub decreases-loop-r : goal.decreases-loop-r
-decreases-loop-r l = 4 - l.r
+invariant-loop-r l = (length l.sums ≡ length l.initial.sums) × ((k : ℕ) → k < l.r → get_or l.sums k 0 ≡ get_or l.few (4 * l.c + k) 0)

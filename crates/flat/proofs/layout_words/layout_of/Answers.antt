@@ -16,5 +16,5 @@ length_counted words from count = length_tabulate _ _
 pub returns : goal.returns
 unfolding layout_of flat_layout
 returns c =
-    rw (c.axes_of-axes.ensures, c.count_of.ensures, c.count_of-2.ensures, c.count_of-3.ensures)
+    rw c.axes_of.ensures
     (simp (length-map, length_counted))

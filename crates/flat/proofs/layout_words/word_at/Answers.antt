@@ -17,8 +17,8 @@ past : (words : List ℕ) (from count i : ℕ) → get_or words count 0 ≤ i �
 unfolding counted
 past words from count i h = sym (get_or-eq_default (counted words from count) 0 (omega (arith, length_tabulate (get_or words count 0) (λ j. get_or words (from + j) 0))))
 
-pub returns-then-i-count_of : goal.returns-then-i-count_of
-returns-then-i-count_of c = below _ _ _ _ (omega (arith, c.count_of.ensures))
+pub returns-then-i-words : goal.returns-then-i-words
+returns-then-i-words c = below _ _ _ _ (omega arith)
 
-pub returns-else-i-count_of : goal.returns-else-i-count_of
-returns-else-i-count_of c = past _ _ _ _ (omega (arith, c.count_of.ensures))
+pub returns-else-i-words : goal.returns-else-i-words
+returns-else-i-words c = past _ _ _ _ (omega arith)

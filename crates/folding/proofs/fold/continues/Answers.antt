@@ -1,5 +1,4 @@
--- `continues` meets its contract. The invariant: what was asked of the first o tensors, and `follows` of those from o on, is `follows` of all. The measure is
--- how many are left.
+-- `continues` meets its contract. The invariant: what was asked of the first o tensors, and `follows` of those from o on, is `follows` of all.
 -- Assumes nothing.
 use native.Mathlib.Omega.{arith}
 use Rattle.contraction.specs.TensorPlaces.{operand_at}

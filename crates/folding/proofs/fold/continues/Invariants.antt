@@ -1,13 +1,8 @@
--- `continues` meets its contract. The invariant: what was asked of the first o tensors, and `follows` of those from o on, is `follows` of all. The measure is
--- how many are left.
+-- `continues` meets its contract. The invariant: what was asked of the first o tensors, and `follows` of those from o on, is `follows` of all.
 -- Assumes nothing.
-use mathlib.Core.Path.{◌≡◌}
-use mathlib.Core.Bool.{Bool, ◌&&◌}
-use Prim.Native.Nat.{ℕ, ◌-◌, ◌≤◌}
-use lib.ListN.{drop}
+use Rattle.std.proofs.Common.{◌≡◌, ℕ, Bool, ◌&&◌, drop}
 use Rattle.words.specs.Sums.{every}
 use Rattle.contraction.specs.Operands.{operands}
-use Rattle.contraction.specs.TensorPlaces.{tensor_count}
 use Rattle.groups.specs.Groups.{Label}
 use Rattle.groups.specs.Held.{as_label}
 use Rattle.folding.specs.Fold.{follows, joins}
@@ -18,7 +13,4 @@ abbrev pub asked_from : Label → Label → ℕ → Bool
 asked_from p l o = every (follows p l) (drop o operands)
 
 abbrev pub invariant-loop-o : goal.invariant-loop-o
-invariant-loop-o l = (l.o ≤ tensor_count) × ((l.all && asked_from (as_label l.p) (as_label l.l) l.o) ≡ joins (as_label l.p) (as_label l.l))
-
-abbrev pub decreases-loop-o : goal.decreases-loop-o
-decreases-loop-o l = tensor_count - l.o
+invariant-loop-o l = (l.all && asked_from (as_label l.p) (as_label l.l) l.o) ≡ joins (as_label l.p) (as_label l.l)

@@ -30,33 +30,35 @@ still_within e w = rw e w
 pub four_sums-requires : goal.four_sums-requires
 four_sums-requires c =
     let p = c.requires in
-    (p.0, p.1, record { first = refl; second = refl; third = refl; fourth = refl }, (p.3 0).walks, p.2, λ q. record { each = (p.3 q).clear.reads }, (p.3 0).rows)
+    (p.0, p.1, record { first = refl; second = refl; third = refl; fourth = refl }, p.2, λ q. record { each = (p.3 q).reads })
 
 pub store_run-requires : goal.store_run-requires
-store_run-requires c = let p = c.requires in (p.1, (p.3 0).clear.starts, (p.3 0).clear.writes)
+store_run-requires c = let p = c.requires in (p.1, (p.3 0).starts, (p.3 0).writes)
 
 pub store_run-requires-2 : goal.store_run-requires-2
 store_run-requires-2 c =
     let p = c.requires in
-    (p.1, (p.3 1).clear.starts, still_within c.store_run.auto.d (p.3 1).clear.writes)
+    (p.1, (p.3 1).starts, still_within c.store_run.auto.d (p.3 1).writes)
 
 pub store_run-requires-3 : goal.store_run-requires-3
 store_run-requires-3 c =
     let p = c.requires in
-    (p.1, (p.3 2).clear.starts, still_within (c.store_run-2.auto.d ∙ c.store_run.auto.d) (p.3 2).clear.writes)
+    (p.1, (p.3 2).starts, still_within (c.store_run-2.auto.d ∙ c.store_run.auto.d) (p.3 2).writes)
 
 pub store_run-requires-4 : goal.store_run-requires-4
 store_run-requires-4 c =
     let p = c.requires in
-    (p.1, (p.3 3).clear.starts, still_within (c.store_run-3.auto.d ∙ c.store_run-2.auto.d ∙ c.store_run.auto.d) (p.3 3).clear.writes)
+    (p.1, (p.3 3).starts, still_within (c.store_run-3.auto.d ∙ c.store_run-2.auto.d ∙ c.store_run.auto.d) (p.3 3).writes)
 
 pub returns : goal.returns
 unfolding each
 returns c =
-    let x = c.args in
+    let x = c.args.x.now in
+    let block = c.args.block in
+    let next = c.args.next in
     let e = c.four_sums.ensures in
-    one_more x.named x.alpha x.beta (over x.depth) x.a.now x.b.now x.c.now x.step c.requires.1 x.from_3 e.3
-    (one_more x.named x.alpha x.beta (over x.depth) x.a.now x.b.now x.c.now x.step c.requires.1 x.from_2 e.2
-    (one_more x.named x.alpha x.beta (over x.depth) x.a.now x.b.now x.c.now x.step c.requires.1 x.from_1 e.1
-    (one_more x.named x.alpha x.beta (over x.depth) x.a.now x.b.now x.c.now x.step c.requires.1 x.from_0 e.0 refl c.store_run.ensures)
+    one_more x.named x.alpha x.beta (over c.args.depth.now.walk) x.a.now x.b.now x.c.now block.step c.requires.1 next.fourth e.3
+    (one_more x.named x.alpha x.beta (over c.args.depth.now.walk) x.a.now x.b.now x.c.now block.step c.requires.1 next.third e.2
+    (one_more x.named x.alpha x.beta (over c.args.depth.now.walk) x.a.now x.b.now x.c.now block.step c.requires.1 next.second e.1
+    (one_more x.named x.alpha x.beta (over c.args.depth.now.walk) x.a.now x.b.now x.c.now block.step c.requires.1 block.from e.0 refl c.store_run.ensures)
     c.store_run-2.ensures) c.store_run-3.ensures) c.store_run-4.ensures

@@ -1,6 +1,6 @@
 -- `dim_of` meets its contract: the extent is that of all axes together, and each stride is what its address word reads as.
 -- Assumes nothing.
-use Rattle.contraction.specs.Operands.{A, B, C, D}
+use Rattle.contraction.specs.declared.contraction.Operand.TheVariants.{A, B, D}
 use Rattle.groups.proofs.LabelLists.{as_label_lem}
 use Rattle.groups.proofs.groups.dim_of.Goals as goal
 
@@ -14,9 +14,7 @@ pub stride_of-requires-2 : goal.stride_of-requires-2
 stride_of-requires-2 c = (c.requires.each B).checked
 
 pub stride_in_c-requires : goal.stride_in_c-requires
-stride_in_c-requires c =
-    let q = c.requires in
-    ((q.each C).checked, q.stands, c.stride_of-in_d.ensures)
+stride_in_c-requires c = (c.requires, c.stride_of-in_d.ensures)
 
 pub returns : goal.returns
 returns c =

@@ -7,6 +7,6 @@ use Rattle.job.proofs.run.put_job.Goals as goal
 pub returns : goal.returns
 returns c =
     put_as c.args.out.now
-    (job_text_lem c.args.file.now c.args.job c.contraction_in-k.ensures c.job_words-a.ensures.words c.job_words-b.ensures.words
+    (job_text_lem c.args.file.now c.args.job c.unwrap_or.ensures c.contraction_in-k.ensures c.job_words-a.ensures.words c.job_words-b.ensures.words
     c.job_words-c.ensures.words c.job_words-d.ensures.words)
     c.put_call.ensures

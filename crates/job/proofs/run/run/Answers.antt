@@ -4,8 +4,8 @@ use Rattle.report.proofs.Written.{put_as}
 use Rattle.job.proofs.Running.{got_text, unread_text}
 use Rattle.job.proofs.run.run.Goals as goal
 
-pub returns-in-Got-clause-value : goal.returns-in-Got-clause-value
-returns-in-Got-clause-value c = put_as c.args.out.now (got_text c.args.file.now c.read_job-read.ensures.same c.in-Got.is) c.put_job.ensures
+pub returns-in-Ok-clause-value : goal.returns-in-Ok-clause-value
+returns-in-Ok-clause-value c = put_as c.args.out.now (got_text c.args.file.now c.in-Ok.parts c.in-Ok.ensures.same) c.put_job.ensures
 
-pub returns-in-Refused-clause-value : goal.returns-in-Refused-clause-value
-returns-in-Refused-clause-value c = put_as c.args.out.now (unread_text c.args.file.now c.read_job-read.ensures.same c.in-Refused.is) c.put_refused.ensures
+pub returns-in-Err-clause-value : goal.returns-in-Err-clause-value
+returns-in-Err-clause-value c = put_as c.args.out.now (unread_text c.args.file.now c.from.ensures c.in-Err.ensures.same) c.put_refused.ensures

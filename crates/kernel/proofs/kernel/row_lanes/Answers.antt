@@ -7,7 +7,7 @@ use Rattle.kernel.proofs.kernel.row_lanes.Goals as goal
 
 pub returns : goal.returns
 returns c =
-    let a = c.args in
+    let t = c.args.t.now in
     record {
-      each = λ i h. c.lane_by_lane.ensures.each i h ∙ sym (ap (word 32) (exchanged a.work.now a.rows (a.behind + i) a.cols a.depth a.r));
+      each = λ i h. c.lane_by_lane.ensures.each i h ∙ sym (ap (word 32) (exchanged t.work.now t.rows (c.args.behind + i) t.cols t.depth c.args.r));
     }

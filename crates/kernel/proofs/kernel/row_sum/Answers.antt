@@ -1,5 +1,5 @@
--- `row_sum` meets its contract. The invariant: d is at most `depth`, and the sum is the word of the sum over the first d depth counts. The measure is how much depth is left.
-use Rattle.std.proofs.Common.{◌≡◌, ℕ, ◌+◌, ◌*◌, List, get_or, refl, add-one, arith}
+-- `row_sum` meets its contract. The invariant: the sum is the word of the sum over the first d depth counts.
+use Rattle.std.proofs.Common.{◌≡◌, ℕ, ◌+◌, ◌*◌, List, get_or, refl, add-one}
 use Rattle.words.specs.Words.{word}
 use Rattle.words.specs.Sums.{sum_to}
 use Rattle.words.proofs.Modular.{word_sum}
@@ -7,17 +7,17 @@ use Rattle.kernel.specs.Kernel.{column_sum}
 use Rattle.kernel.proofs.kernel.row_sum.Goals as goal
 
 -- a turn of the loop: one product more
-turn : (work : List ℕ) (rows r from cols d : ℕ) {sum p next : ℕ} → sum ≡ word 32 (column_sum work rows from cols d r)
-    → p ≡ word 32 (get_or work (rows * d + r) 0 * get_or work (from + cols * d) 0) → next ≡ word 32 (sum + p) → next ≡ word 32 (column_sum work rows from cols (d + 1) r)
+turn : (work : List ℕ) (rows r from cols d : ℕ) {sum p : ℕ} → sum ≡ word 32 (column_sum work rows from cols d r)
+    → p ≡ word 32 (get_or work (rows * d + r) 0 * get_or work (from + cols * d) 0) → word 32 (sum + p) ≡ word 32 (column_sum work rows from cols (d + 1) r)
 unfolding column_sum
-turn work rows r from cols d es ep en = rw (en, es, ep, add-one) (word_sum 32 d (λ k. get_or work (rows * k + r) 0 * get_or work (from + cols * k) 0))
+turn work rows r from cols d es ep = rw (es, ep, add-one) (word_sum 32 d (λ k. get_or work (rows * k + r) 0 * get_or work (from + cols * k) 0))
 
 pub loop-d-init : goal.loop-d-init
 unfolding column_sum sum_to
-loop-d-init c = (omega arith, refl)
+loop-d-init c = refl
 
 pub loop-d-preserved : goal.loop-d-preserved
 loop-d-preserved c =
-    let s = c.args in
+    let t = c.args.t.now in
     let l = c.loop-d in
-    (omega arith, turn s.work.now s.rows s.r s.from s.cols l.d l.invariant.1 c.mul.ensures c.wrapping_add_u32-sum.ensures.value)
+    turn t.work.now t.rows c.args.r c.args.from t.cols l.d l.invariant c.mul-sum.ensures

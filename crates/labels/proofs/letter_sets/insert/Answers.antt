@@ -9,4 +9,4 @@ pub returns : goal.returns
 returns c d =
     let a = c.args in
     let k = a.c % 64 in
-    rw (c.bit_of-k.ensures, shifted k (omega arith), has_or a.set (2 ^ k) d, has_one k d) (or_comm (has a.set d) (eqb (d % 64) k))
+    rw (shifted k (omega arith), has_or a.set (2 ^ k) d, has_one k d) (or_comm (has a.set d) (eqb (d % 64) k))

@@ -1,6 +1,6 @@
 -- `pack_short` meets its contract: one word or two, each at its place.
 -- Assumes nothing.
-use Rattle.std.proofs.Common.{◌≡◌, ℕ, get_or, ap, ◌∙◌, arith}
+use Rattle.std.proofs.Common.{◌≡◌, ℕ, get_or, ap, arith}
 use Rattle.words.specs.Stepped.{stepped}
 use Rattle.words.proofs.Modular.{step_none, second_place}
 use Rattle.words.proofs.Fronts.{stored_one, stored_two}
@@ -12,7 +12,7 @@ returns-then-n-eq2 c =
     let v : ℕ → ℕ = λ k. get_or a.src.now (stepped a.at a.step k) 0 in
     rw c.if-n-eq2.true
     (stored_two v a.to a.out.now (ap (λ (p : ℕ). get_or a.src.now p 0) (step_none {x = a.at} a.step (omega (arith, c.ranges.at))))
-    (ap (λ (p : ℕ). get_or a.src.now p 0) (c.wrapping_add_u64-next.ensures.value ∙ second_place a.at a.step)))
+    (ap (λ (p : ℕ). get_or a.src.now p 0) (second_place a.at a.step)))
 
 pub returns-else-n-eq2 : goal.returns-else-n-eq2
 returns-else-n-eq2 c =

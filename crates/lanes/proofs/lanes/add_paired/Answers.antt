@@ -1,15 +1,15 @@
--- `add_paired` meets its contract. The invariant: r is at most n, and the sums are those that r turns leave. The measure is how many are left.
-use Rattle.std.proofs.Common.{◌+◌, ◌*◌, get_or, refl, arith}
+-- `add_paired` meets its contract. The invariant: the sums are those that r turns leave.
+use Rattle.std.proofs.Common.{◌+◌, ◌*◌, get_or, refl}
 use Rattle.words.specs.Loops.{each}
 use Rattle.lanes.proofs.LaneTurns.{product_turn}
 use Rattle.lanes.proofs.lanes.add_paired.Goals as goal
 
 pub loop-r-init : goal.loop-r-init
 unfolding each
-loop-r-init c = (omega arith, refl)
+loop-r-init c = refl
 
 pub loop-r-preserved : goal.loop-r-preserved
 loop-r-preserved c =
     let s = c.args in
     let l = c.loop-r in
-    (omega arith, product_turn (λ k. get_or s.a.now (s.i + k) 0 * get_or s.b.now (s.j + k) 0) s.sums.now l.r l.invariant.1 c.add_at.ensures)
+    product_turn (λ k. get_or s.a.now (s.i + k) 0 * get_or s.b.now (s.j + k) 0) s.sums.now l.r l.invariant c.add_at.ensures

@@ -1,14 +1,13 @@
--- `clear` meets its contract. The invariant: the first k words are `-`, the others as they were. A turn stores one more. The measure is how many are left.
+-- `clear` meets its contract: what fills the words is `-`.
 -- Assumes nothing.
-use Rattle.std.proofs.Common.{refl, rules}
-use Rattle.words.proofs.Filled.{filled_none, filled_more, filled_all}
+use Rattle.std.proofs.Common.{◌≡◌, ℕ, zero, suc, ◌∷◌, List, length, replicate, refl, ap, ◌∙◌}
+use Rattle.words.specs.Lists.{tabulate}
+use Rattle.letters.specs.PrintedLetters.{outside}
 use Rattle.letters.proofs.letters.clear.Goals as goal
 
-pub loop-k-init : goal.loop-k-init
-loop-k-init c = filled_none _ _
-
-pub loop-k-preserved : goal.loop-k-preserved
-loop-k-preserved c = filled_more _ _ c.loop-k.invariant (search rules) refl
+all_same : (n v : ℕ) → replicate n v ≡ tabulate n (λ k. v)
+all_same zero v = refl
+all_same (suc n) v = ap (λ (vs : List ℕ). v ∷ vs) (all_same n v)
 
 pub returns : goal.returns
-returns c = filled_all _ _ c.loop-k.invariant (search rules)
+returns c = c.fill.ensures.after (λ y e. e) ∙ all_same (length c.args.out.now) outside

@@ -1,6 +1,5 @@
--- `letter_columns` meets its contract. The invariant: the words are those that the first j turns leave. The measure is how many are left.
+-- `letter_columns` meets its contract. The invariant: the words are those that the first j turns leave.
 -- Assumes nothing.
-use Rattle.std.proofs.Common.{◌-◌}
 use Rattle.words.specs.Loops.{each}
 use Rattle.tiles.specs.Grid.{cut_in}
 use Rattle.letters.specs.Placed.{lettered}
@@ -8,7 +7,4 @@ use Rattle.letters.proofs.LetterLoops.{Turns}
 use Rattle.letters.proofs.letters.letter_columns.Given as goal
 
 abbrev pub invariant-loop-j : goal.invariant-loop-j
-invariant-loop-j l = Turns l.columns (λ j. each (cut_in l.g).M (λ i. lettered l.p (cut_in l.g) l.t l.h i j)) l.initial.out l.j l.out
-
-abbrev pub decreases-loop-j : goal.decreases-loop-j
-decreases-loop-j l = l.columns - l.j
+invariant-loop-j l = Turns (λ j. each (cut_in l.g).M (λ i. lettered l.p (cut_in l.g) l.t l.h i j)) l.initial.out l.j l.out

@@ -1,5 +1,5 @@
 -- `letter_rows` meets its contract. The invariant: the words are those that the letters of the first i row counts leave, each put where the code's sum
--- of address words says, which is the plan's place. The measure is how many are left.
+-- of address words says, which is the plan's place.
 -- Assumes nothing.
 use Rattle.std.proofs.Common.{◌∙◌, arith, length-set}
 use Rattle.groups.specs.Groups.{batch, row as rowGroup, column}
@@ -8,16 +8,16 @@ use Rattle.letters.proofs.LetterLoops.{turns_none, turns_next, turns_all, grid_s
 use Rattle.letters.proofs.letters.letter_rows.Goals as goal
 
 pub offset_in-at_column-requires : goal.offset_in-at_column-requires
-offset_in-at_column-requires c = let q = c.requires in (q.0.few column, omega arith, omega (arith, q.3, (grid_sizes q.0).2))
+offset_in-at_column-requires c = let q = c.requires in (q.0.few column, omega (arith, q.3, (grid_sizes q.0).2))
 
 pub at_batch-requires : goal.at_batch-requires
-at_batch-requires c = let q = c.requires in (q.0.few batch, omega arith, omega (arith, q.2, (grid_sizes q.0).0))
+at_batch-requires c = let q = c.requires in (q.0.few batch, omega (arith, q.2, (grid_sizes q.0).0))
 
 pub loop-i-init : goal.loop-i-init
-loop-i-init c = turns_none _ _ _
+loop-i-init c = turns_none _ _
 
 pub offset_in-requires : goal.offset_in-requires
-offset_in-requires c = let q = c.requires in (q.0.few rowGroup, omega arith, omega (arith, (grid_sizes q.0).1))
+offset_in-requires c = let q = c.requires in (q.0.few rowGroup, omega (arith, (grid_sizes q.0).1))
 
 pub bounds-out-at : goal.bounds-out-at
 bounds-out-at c =
@@ -31,7 +31,7 @@ pub loop-i-preserved : goal.loop-i-preserved
 loop-i-preserved c =
     let from = c.wrapping_add_u64-from.result in
     let place = code_place _ from c.loop-i.i c.offset_in.ensures c.wrapping_add_u64-at.ensures.value in
-    turns_next c.loop-i.invariant (omega arith) (simp length-set) (row_next _ _ _ _ _ from c.loop-i.i _ place c.letter_of.ensures c.state.ensures)
+    turns_next c.loop-i.invariant (simp length-set) (row_next _ _ _ _ _ from c.loop-i.i _ place c.letter_of.ensures c.state.ensures)
 
 pub returns : goal.returns
 returns c =

@@ -1,13 +1,9 @@
 -- `letter_rows` meets its contract. The invariant: the words are those that the letters of the first i row counts leave, each put where the code's sum
--- of address words says, which is the plan's place. The measure is how many are left.
+-- of address words says, which is the plan's place.
 -- Assumes nothing.
-use Rattle.std.proofs.Common.{◌-◌}
 use Rattle.tiles.specs.Grid.{cut_in}
 use Rattle.letters.proofs.LetterLoops.{Turns, row_letter}
 use Rattle.letters.proofs.letters.letter_rows.Given as goal
 
 abbrev pub invariant-loop-i : goal.invariant-loop-i
-invariant-loop-i l = Turns l.rows (row_letter (cut_in l.g) l.t l.h l.j l.row l.from) l.initial.out l.i l.out
-
-abbrev pub decreases-loop-i : goal.decreases-loop-i
-decreases-loop-i l = l.rows - l.i
+invariant-loop-i l = Turns (row_letter (cut_in l.g) l.t l.h l.j l.row l.from) l.initial.out l.i l.out

@@ -1,5 +1,4 @@
 -- `read_bytes` meets its contract. The loop's invariant: the first i places hold the first i numbers, and the rest is as it was.
--- The measure is what is left of the length.
 use mathlib.Core.Path.{◌∙◌}
 use borrow.Author.Rules.{rules}
 use Rattle.words.proofs.Filled.{filled_none, filled_more, filled_all}
@@ -14,7 +13,7 @@ pub loop-i-preserved : goal.loop-i-preserved
 loop-i-preserved c =
     let a = c.args in
     let l = c.loop-i in
-    filled_more _ _ l.invariant (search rules) (c.byte_word.ensures ∙ byte_at a.file.now a.at l.i)
+    filled_more _ _ l.invariant (search rules) (c.from.ensures ∙ byte_at a.file.now a.at l.i)
 
 pub returns : goal.returns
 unfolding numbers

@@ -1,5 +1,4 @@
 -- `read_signed` meets its contract. The loop's invariant: the first i places hold the first i numbers, and the rest is as it was.
--- The measure is what is left of the length.
 use mathlib.Core.Path.{ap, sym, ◌∙◌}
 use lib.ListN.{length}
 use mir.Syntax.{w32}

@@ -1,5 +1,4 @@
 -- `read_words` meets its contract. The loop's invariant: the first i places hold the first i numbers, and the rest is as it was.
--- The measure is what is left of the length.
 use borrow.Author.Rules.{rules}
 use Rattle.words.proofs.Filled.{filled_none, filled_more, filled_all}
 use Rattle.little_endian.specs.Bytes.{numbers}

@@ -1,14 +1,9 @@
 -- `read_words` meets its contract. The loop's invariant: the first i places hold the first i numbers, and the rest is as it was.
--- The measure is what is left of the length.
 -- Assumes nothing.
-use Prim.Native.Nat.{◌+◌, ◌*◌, ◌-◌}
-use lib.ListN.{length}
+use Prim.Native.Nat.{◌+◌, ◌*◌}
 use Rattle.words.proofs.Filled.{Filled}
 use Rattle.little_endian.specs.Bytes.{little}
 use Rattle.little_endian.proofs.numbers.read_words.Given as goal
 
 abbrev pub invariant-loop-i : goal.invariant-loop-i
 invariant-loop-i l = Filled (λ k. little l.file 4 (l.at + 4 * k)) l.initial.out l.out l.i
-
-abbrev pub decreases-loop-i : goal.decreases-loop-i
-decreases-loop-i l = length l.initial.out - l.i

@@ -1,8 +1,8 @@
--- `two_bytes` meets its contract: a byte is below 256, so the sum fits 16 bits.
+-- `two_bytes` meets its contract: the library's sum over the bytes is that of `little`.
 -- Assumes nothing.
-use mathlib.Core.Path.{sym}
+use native.Mathlib.Omega.{arith}
 use Rattle.little_endian.proofs.Little.{little_two}
 use Rattle.little_endian.proofs.numbers.two_bytes.Goals as goal
 
 pub returns : goal.returns
-returns c = let a = c.args in sym (little_two a.file.now a.at)
+returns c = let a = c.args in omega (arith, c.from_le_bytes.ensures, little_two a.file.now a.at)

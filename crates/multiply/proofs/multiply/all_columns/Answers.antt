@@ -4,7 +4,7 @@ use Rattle.std.proofs.Common.{◌≡◌, ℕ, ◌+◌, ◌-◌, ◌<◌, ◌≤�
 use Rattle.words.specs.Loops.{each}
 use Rattle.words.proofs.Loops.{each_next, each_add}
 use Rattle.words.proofs.Sums.{both_true}
-use Rattle.columns.specs.Stored.{column_stored}
+use Rattle.columns.specs.LineStores.{lines_stored}
 use Rattle.columns.proofs.Stores.{next_column, column_stored_lem}
 use Rattle.multiply.proofs.multiply.all_columns.Goals as goal
 
@@ -20,32 +20,37 @@ many_left n rows count c some h =
 
 pub loop-c-init : goal.loop-c-init
 unfolding each
-loop-c-init c = (omega arith, refl, λ h. c.wrapping_add_u64-at.ensures.value, refl)
+loop-c-init c = (omega arith, refl, λ h. refl, refl)
 
-pub loop-c-preserved-then-t-count : goal.loop-c-preserved-then-t-count
-loop-c-preserved-then-t-count c =
+pub loop-c-preserved-then-rows-count : goal.loop-c-preserved-then-rows-count
+loop-c-preserved-then-rows-count c =
     let a = c.args in
+    let t = a.t.now in
     let l = c.loop-c in
     let r = c.next_eight-at in
-    (many_left 8 a.t.rows a.t.columns l.c (lit< tt) c.if-t-count.true, r.auto.d ∙ l.invariant.1, r.ensures.1, turn_more 8 (column_stored a.work.now a.p a.f a.t.from a.columns.now a.rows.now a.t.rows) l.c a.d.now l.invariant.3 r.ensures.0)
+    (many_left 8 t.rows.now.count t.columns.now.count l.c (lit< tt) c.if-rows-count.true, r.auto.d ∙ l.invariant.1, r.ensures.1, turn_more 8 (lines_stored a.work.now a.p a.f t) l.c a.d.now l.invariant.3 r.ensures.0)
 
-pub loop-c-preserved-then-t-count-2 : goal.loop-c-preserved-then-t-count-2
-loop-c-preserved-then-t-count-2 c =
+pub loop-c-preserved-then-rows-count-2 : goal.loop-c-preserved-then-rows-count-2
+loop-c-preserved-then-rows-count-2 c =
     let a = c.args in
+    let t = a.t.now in
     let l = c.loop-c in
     let r = c.next_four-at in
-    (many_left 4 a.t.rows a.t.columns l.c (lit< tt) c.if-t-count-2.true, r.auto.d ∙ l.invariant.1, r.ensures.1, turn_more 4 (column_stored a.work.now a.p a.f a.t.from a.columns.now a.rows.now a.t.rows) l.c a.d.now l.invariant.3 r.ensures.0)
+    (many_left 4 t.rows.now.count t.columns.now.count l.c (lit< tt) c.if-rows-count-2.true, r.auto.d ∙ l.invariant.1, r.ensures.1, turn_more 4 (lines_stored a.work.now a.p a.f t) l.c a.d.now l.invariant.3 r.ensures.0)
 
 pub loop-c-preserved : goal.loop-c-preserved
 loop-c-preserved c =
     let a = c.args in
+    let t = a.t.now in
+    let rows = t.rows.now in
+    let columns = t.columns.now in
     let l = c.loop-c in
     let r = c.store_one-at in
-    let h : l.c < a.t.columns = omega arith in
+    let h : l.c < columns.count = omega arith in
     let at = l.invariant.2 h in
-    let e = r.ensures.0 ∙ column_stored_lem a.work.now a.p a.f a.t.from a.columns.now a.rows.now a.t.rows l.c l.d refl at c.column-sums.ensures in (
+    let e = r.ensures.0 ∙ column_stored_lem a.work.now a.p a.f t.from columns.offsets rows.offsets rows.count l.c l.d refl at c.column-sums.ensures in (
       omega arith,
       r.auto.d ∙ l.invariant.1,
       λ i. next_column c.requires l.c (l.c + 1) refl i at r.ensures.1,
-      each_next (column_stored a.work.now a.p a.f a.t.from a.columns.now a.rows.now a.t.rows) l.c a.d.now l.invariant.3 e,
+      each_next (lines_stored a.work.now a.p a.f t) l.c a.d.now l.invariant.3 e,
     )

@@ -4,12 +4,13 @@
 use Rattle.std.proofs.Common.{◌≡◌, ◌-◌, ◌<◌, ◌≤◌, length}
 use Rattle.words.specs.Loops.{each}
 use Rattle.block.specs.Places.{place_of}
-use Rattle.columns.specs.Stored.{column_stored}
+use Rattle.columns.specs.LineStores.{lines_stored}
 use Rattle.multiply.proofs.multiply.all_columns.Given as goal
 
 abbrev pub invariant-loop-c : goal.invariant-loop-c
 invariant-loop-c l =
-    (l.c ≤ l.t.columns) × (length l.d ≡ length l.initial.d) × (l.c < l.t.columns → l.at ≡ place_of l.t.from l.columns l.c) × (l.d ≡ each l.c (column_stored l.work l.p l.f l.t.from l.columns l.rows l.t.rows) l.initial.d)
+    (l.c ≤ l.count) × (length l.d ≡ length l.initial.d) × (l.c < l.count → l.at ≡ place_of l.t.from l.t.columns.now.offsets l.c)
+    × (l.d ≡ each l.c (lines_stored l.work l.p l.f l.t) l.initial.d)
 
 abbrev pub decreases-loop-c : goal.decreases-loop-c
-decreases-loop-c l = l.t.columns - l.c
+decreases-loop-c l = l.count - l.c

@@ -5,5 +5,5 @@ use Rattle.nezgrak.proofs.tile_call.nezgrak_run_tiles.Goals as goal
 
 pub returns : goal.returns
 returns c =
-    tiles_handed c.run-outcome.result c.status_of.ensures c.done_of.ensures c.complete_of.ensures c.run-outcome.ensures
+    tiles_handed c.args.done c.run-outcome.result c.status_of.ensures c.done_of.ensures (c.complete_of.ensures c.args.done) c.run-outcome.ensures
     (tiles_unnamed _ _ _ _ _ _ _ _ _ c.contraction_of-k.ensures _ _ _ _)

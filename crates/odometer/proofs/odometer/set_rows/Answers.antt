@@ -1,35 +1,27 @@
--- `set_rows` meets its contract. The invariant: the rows before `rows` are those of their labels, and `gone` has how far these labels go. A turn sets one row
--- more: the strides of its label less that. The measure is how many labels are left.
+-- `set_rows` meets its contract. The invariant: the rows before i are those of their labels, and `gone` has how far these labels go. A turn sets one row more:
+-- the strides of its label less that.
 -- Assumes nothing.
-use Rattle.std.proofs.Common.{◌≡◌, ℕ, zero, suc, ◌+◌, ◌-◌, ◌*◌, ◌<◌, List, [], ◌∷◌, map, get_or, drop, sym, refl, ◌∙◌, add-one, arith}
-use native.Mathlib.Decide.{dec_lt}
+use Rattle.std.proofs.Common.{◌≡◌, ℕ, ◌+◌, ◌-◌, ◌*◌, ◌^◌, ◌<◌, ◌≤◌, List, [], ◌∷◌, map, length, get_or, take, set, sym, refl, ap, ◌∙◌, add-one, below_more, arith, get_or-set_other, get_or-set_same}
+use Rattle.std.proofs.lemmas.List.{get_or-map, get_or-take, length-map, length-take-le}
 use Rattle.words.specs.Words.{word, word_of}
-use Rattle.contraction.specs.Operands.{Operand}
-use Rattle.contraction.specs.TensorPlaces.{operand_number}
-use Rattle.contraction.proofs.TensorPlaces.{number_below}
-use Rattle.groups.specs.declared.groups.Dim.{Dim}
+use Rattle.contraction.specs.declared.contraction.Operand.{Operand}
 use Rattle.groups.specs.Groups.{Label}
-use Rattle.groups.specs.Held.{as_label, labels_in}
+use Rattle.groups.specs.Held.{as_label, no_dim}
 use Rattle.offsets.specs.declared.offsets.Offsets.{Offsets}
 use Rattle.offsets.specs.Offsets.{words_in, Words}
-use Rattle.odometer.specs.Carried.{before, stride_at, move}
-use Rattle.odometer.specs.Odometer.{last_in, move_in, less_gone, Tabled, RowSet}
+use Rattle.odometer.specs.declared.odometer.Row.{Row}
+use Rattle.odometer.specs.Carried.{before, stride_at}
+use Rattle.odometer.specs.Odometer.{no_row, last_in, move_in, Tabled}
 use Rattle.odometer.proofs.Carried.{before_next}
-use Rattle.odometer.proofs.LabelsBehind.{labels, later, length_labels, labels_behind}
 use Rattle.odometer.proofs.odometer.set_rows.Invariants.{Begun}
 use Rattle.odometer.proofs.odometer.set_rows.Goals as goal
-
-at_label : (p : Label → ℕ) (n : ℕ) (f : ℕ → Dim) (i : ℕ) → i < n → get_or (map p (labels n f)) i 0 ≡ p (as_label (f i))
-at_label p zero f i h = absurd (omega arith)
-at_label p (suc n) f zero h = refl
-at_label p (suc n) f (suc i) h = at_label p n (λ i. f (suc i)) i (omega arith)
 
 nothing : (o : Operand) (g : List Label) → word 64 (before o g 0) ≡ 0
 nothing o [] = refl
 nothing o (l ∷ g) = refl
 
-begun_none : (g : List Label) (table : List ℕ) {gone : Offsets} → Words gone (λ o. 0) → Begun g 0 table gone
-begun_none g table w =
+begun_none : (g : List Label) (rows : List Row) {gone : Offsets} → Words gone (λ o. 0) → Begun g 0 rows gone
+begun_none g rows w =
     record {
       last = λ k h. absurd (omega arith);
       moves = λ k h. absurd (omega arith);
@@ -37,80 +29,56 @@ begun_none g table w =
     }
 
 -- a row more
-module _ (n : ℕ) (f : ℕ → Dim) (i : ℕ) {old new : List ℕ} {gone step along next : Offsets} {last : ℕ} (b : Begun (labels n f) i old gone) (h : i < n)
-    (steps : Words step (λ o. 1 * word_of 64 ((as_label (f i)).stride o))) (value : last ≡ (f i).extent - 1) (set : RowSet i last (less_gone step gone) old new)
-    (goes : Words along (λ o. last * word_of 64 ((as_label (f i)).stride o))) (plus : Words next (λ o. words_in gone o + words_in along o)) where
-  abbrev g : List Label
-  g = labels n f
+module _ (g : List Label) (i : ℕ) (l : Label) {rows : List Row} {gone step moves along next : Offsets} {last wide : ℕ} (b : Begun g i rows gone) (h : i < length g)
+    (here : get_or g i l ≡ l) (room : i < length rows) (steps : Words step (λ o. 1 * word_of 64 (l.stride o))) (value : last ≡ l.extent - 1) (same : wide ≡ last)
+    (moved : Words moves (λ o. words_in step o + (2 ^ 64 - words_in gone o)))
+    (goes : Words along (λ o. last * word_of 64 (l.stride o))) (plus : Words next (λ o. words_in gone o + words_in along o)) where
+  stride_is : (o : Operand) → stride_at o g i ≡ word_of 64 (l.stride o)
+  stride_is o = get_or-map (λ l. word_of 64 (l.stride o)) g i l 0 h ∙ ap (λ (l : Label). word_of 64 (l.stride o)) here
 
-  stride_is : (o : Operand) → stride_at o g i ≡ word_of 64 ((as_label (f i)).stride o)
-  stride_is o = at_label (λ l. word_of 64 (l.stride o)) n f i h
+  extent_is : get_or (map (λ l. l.extent) g) i 0 ≡ l.extent
+  extent_is = get_or-map (λ l. l.extent) g i l 0 h ∙ ap (λ (l : Label). l.extent) here
 
-  extent_is : get_or (map (λ l. l.extent) g) i 0 ≡ (f i).extent
-  extent_is = at_label (λ l. l.extent) n f i h
+  abbrev row : Row
+  row = record { last = wide; moves = moves }
 
-  begun_next : Begun g (i + 1) new next
-  begun_next = record { last = lasts; moves = moves; words = words }
-    where
-      lasts : (k : ℕ) → k < i + 1 → last_in new k ≡ get_or (map (λ l. l.extent) g) k 0 - 1
-      lasts k l = pick (dec_lt k i)
-        where
-          pick : Dec (k < i) → last_in new k ≡ get_or (map (λ l. l.extent) g) k 0 - 1
-          pick (yes m) = set.others (5 * k) (omega arith) ∙ b.last k m
-          pick (no m) = let e : k ≡ i = omega arith in rw (e, set.last, extent_is) value
+  row_here : get_or (set rows i row) i no_row ≡ row
+  row_here = get_or-set_same rows i row no_row room
 
-      moves : (k : ℕ) → k < i + 1 → (o : Operand) → move_in new k o ≡ move o g k
-      moves k l o = pick (dec_lt k i)
-        where
-          pick : Dec (k < i) → move_in new k o ≡ move o g k
-          pick (yes m) = set.others (5 * k + 1 + operand_number o) (omega (arith, number_below o)) ∙ b.moves k m o
-          pick (no m) = let e : k ≡ i = omega arith in rw (e, set.moves o, steps.each o, b.words o, stride_is o) (omega arith)
+  row_before : (k : ℕ) → k < i → get_or (set rows i row) k no_row ≡ get_or rows k no_row
+  row_before k m = get_or-set_other rows i k row no_row (λ e. omega arith)
 
-      words : (o : Operand) → words_in next o ≡ word 64 (before o g (i + 1))
-      words o =
-          rw (add-one, plus.each o, b.words o, goes.each o, value, before_next o g i (omega (arith, length_labels n f)), extent_is, stride_is o)
-          (omega arith)
+  begun_next : Begun g (i + 1) (set rows i row) next
+  begun_next =
+      record {
+        last = below_more _ i (λ k m. rw (last_in, row_before k m) (b.last k m)) (rw (last_in, row_here, extent_is) (same ∙ value));
+        moves = below_more _ i (λ k m o. rw (move_in, row_before k m) (b.moves k m o)) (λ o. rw (move_in, row_here, moved.each o, steps.each o, b.words o, stride_is o) (omega arith));
+        words = λ o. rw (add-one, plus.each o, b.words o, goes.each o, value, before_next o g i h, extent_is, stride_is o) (omega arith);
+      }
 
 -- all rows are set
-tabled : (g : List Label) (n : ℕ) (f : ℕ → Dim) {table : List ℕ} {gone : Offsets} → g ≡ labels n f → Begun (labels n f) n table gone → Tabled g n table
-tabled g n f e b = rw e (record { rows = sym (length_labels n f); last = b.last; moves = b.moves })
+tabled : (g : List Label) (n : ℕ) {rows : List Row} {gone : Offsets} → n ≡ length g → n ≤ length rows → Begun g n rows gone → Tabled g (take n rows)
+tabled g n {rows} e h b =
+    record {
+      rows = length-take-le n rows h ∙ e;
+      last = λ i l. let m : i < n = omega arith in rw (last_in, get_or-take n rows i no_row m) (b.last i m);
+      moves = λ i l o. let m : i < n = omega arith in rw (move_in, get_or-take n rows i no_row m) (b.moves i m o);
+    }
 
-pub none-gone-requires : goal.none-gone-requires
-none-gone-requires c = tt
+pub loop-i-init : goal.loop-i-init
+loop-i-init c = begun_none _ _ c.none-gone.ensures
 
-pub loop-rows-init : goal.loop-rows-init
-loop-rows-init c = (omega arith, refl, begun_none _ _ c.none-gone.ensures)
-
-pub last_value-last-requires : goal.last_value-last-requires
-last_value-last-requires c = tt
-
-pub along-requires : goal.along-requires
-along-requires c = tt
-
-pub along-requires-in-loop-rows : goal.along-requires-in-loop-rows
-along-requires-in-loop-rows c = tt
-
-pub plus-gone-requires : goal.plus-gone-requires
-plus-gone-requires c = tt
-
-pub loop-rows-preserved : goal.loop-rows-preserved
-loop-rows-preserved c =
-    let l = c.loop-rows in
-    let s = c.args.g in (
-      omega arith,
-      c.set_row.auto.table ∙ l.invariant.1,
-      begun_next (s.count - 1) (later s) l.rows l.invariant.2 (omega arith) c.along.ensures
-          c.last_value-last.ensures c.set_row.ensures
-          c.along-in-loop-rows.ensures c.plus-gone.ensures,
-    )
+pub loop-i-preserved : goal.loop-i-preserved
+loop-i-preserved c =
+    let i = c.loop-i.i in
+    let xs = c.args.labels.now in
+    let h : i < length (map as_label xs) = simp length-map (omega arith) in
+    begun_next (map as_label xs) i (as_label (get_or xs i no_dim)) c.loop-i.invariant h (get_or-map as_label xs i no_dim (as_label (get_or xs i no_dim)) (omega arith)) (omega arith)
+    c.along.ensures c.last_value-last.ensures c.from.ensures c.minus-moves.ensures
+    c.along-in-loop-i.ensures c.plus-gone.ensures
 
 pub returns : goal.returns
 returns c =
-    let l = c.loop-rows in
-    let g = c.args.g in
-    let z : l.rows ≡ g.count - 1 = omega arith in
-    record {
-      few = omega arith;
-      room = omega arith;
-      tabled = rw z (tabled (drop 1 (labels_in g)) (g.count - 1) (later g) (labels_behind g) (rw z at l.invariant.2));
-    }
+    let n = length c.args.labels.now in
+    let e : c.loop-i.i ≡ n = omega arith in
+    tabled (map as_label c.args.labels.now) n (sym (length-map c.args.labels.now as_label)) (omega arith) (rw e at c.loop-i.invariant)

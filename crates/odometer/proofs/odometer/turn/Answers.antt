@@ -1,7 +1,6 @@
--- `turn` meets its contract. The invariant: the labels before i were at their last values and are at 0, the others are as they were. The measure is how many
--- labels are left.
+-- `turn` meets its contract. The invariant: the labels before i were at their last values and are at 0, the others are as they were.
 -- Assumes nothing.
-use Rattle.std.proofs.Common.{◌≡◌, ℕ, ◌+◌, ◌*◌, ◌<◌, ◌≤◌, List, length, get_or, set, refl, ◌∙◌, arith, length-set, get_or-set_other, get_or-set_same}
+use Rattle.std.proofs.Common.{◌≡◌, ℕ, ◌+◌, ◌<◌, ◌≤◌, List, length, get_or, set, refl, ◌∙◌, arith, get_or-set_other, get_or-set_same}
 use native.Mathlib.Decide.{dec_lt}
 use Rattle.odometer.specs.Odometer.{Turned}
 use Rattle.odometer.proofs.odometer.turn.Invariants.{Cleared}
@@ -55,20 +54,17 @@ module _ {last : ℕ → ℕ} {old new : List ℕ} {i : ℕ} (c : Cleared last o
       }
 
 pub loop-i-init : goal.loop-i-init
-loop-i-init c = (omega arith, refl, none_cleared _ _)
+loop-i-init c = none_cleared _ _
 
-pub overflow_add-digits : goal.overflow_add-digits
-overflow_add-digits c = omega (arith, c.shared_slice_known-1.given (5 * c.loop-i.i))
-
-pub returns-then-v-table : goal.returns-then-v-table
-returns-then-v-table c =
+pub returns-then-v-rows : goal.returns-then-v-rows
+returns-then-v-rows c =
     let l = c.loop-i in
-    found l.invariant.2 c.args.count (omega arith) (omega arith) (omega arith)
+    found l.invariant (length c.args.rows.now) (omega arith) (omega arith) (omega arith)
 
 pub loop-i-preserved : goal.loop-i-preserved
-loop-i-preserved c =
-    let l = c.loop-i in
-    (omega arith, simp length-set l.invariant.1, clear_next l.invariant.2 (omega arith) (omega arith))
+loop-i-preserved c = clear_next c.loop-i.invariant (omega arith) (omega arith)
 
 pub returns : goal.returns
-returns c = all_cleared c.loop-i.invariant.2 c.args.count (omega arith)
+returns c =
+    let e : c.loop-i.i ≡ length c.args.rows.now = omega arith in
+    all_cleared (rw e at c.loop-i.invariant) (length c.args.rows.now) refl

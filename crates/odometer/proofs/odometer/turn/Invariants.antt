@@ -1,7 +1,6 @@
--- `turn` meets its contract. The invariant: the labels before i were at their last values and are at 0, the others are as they were. The measure is how many
--- labels are left.
+-- `turn` meets its contract. The invariant: the labels before i were at their last values and are at 0, the others are as they were.
 -- Assumes nothing.
-use Rattle.std.proofs.Common.{◌≡◌, ℕ, ◌-◌, ◌<◌, ◌≤◌, List, length, get_or}
+use Rattle.std.proofs.Common.{◌≡◌, ℕ, ◌<◌, ◌≤◌, List, get_or}
 use Rattle.odometer.specs.Odometer.{last_in}
 use Rattle.odometer.proofs.odometer.turn.Given as goal
 
@@ -12,7 +11,4 @@ pub record Cleared (last : ℕ → ℕ) (old new : List ℕ) (i : ℕ) : Type 0 
   pub rest : (k : ℕ) → i ≤ k → get_or new k 0 ≡ get_or old k 0
 
 abbrev pub invariant-loop-i : goal.invariant-loop-i
-invariant-loop-i l = (l.i ≤ l.count) × (length l.digits ≡ length l.initial.digits) × Cleared (last_in l.table) l.initial.digits l.digits l.i
-
-abbrev pub decreases-loop-i : goal.decreases-loop-i
-decreases-loop-i l = l.count - l.i
+invariant-loop-i l = Cleared (last_in l.rows) l.initial.digits l.digits l.i

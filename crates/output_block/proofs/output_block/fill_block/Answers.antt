@@ -6,6 +6,7 @@ use Rattle.output_block.proofs.output_block.fill_block.Goals as goal
 
 pub returns : goal.returns
 returns c =
-    let x = c.args in
-    stored_run x.named x.alpha x.beta (over x.depth) x.a.now x.b.now x.c.now x.from x.step x.d.now
+    let x = c.args.x.now in
+    let block = c.args.block in
+    stored_run x.named x.alpha x.beta (over c.args.depth.now.walk) x.a.now x.b.now x.c.now block.from block.step c.args.d.now
     c.block_sums-sums.ensures c.store_run.ensures

@@ -1,5 +1,5 @@
 -- `fill_run` meets its contract. The invariant: the addresses are v steps from the first, and the words of D are those that v turns leave.
--- A turn adds the step once more, and stores what `filled` stores: to reduce the sum to a word first changes nothing. The measure is how many are left.
+-- A turn adds the step once more, and stores what `filled` stores: to reduce the sum to a word first changes nothing.
 -- Assumes nothing.
 use mathlib.Core.Path.{◌≡◌, refl, ap, sym, ◌∙◌, subst, fun_ext}
 use mathlib.Core.Bool.{Bool, true}
@@ -7,11 +7,11 @@ use mathlib.Core.List.{List}
 use Prim.Native.Nat.{ℕ, ◌+◌, ◌^◌, ◌<◌}
 use native.Mathlib.Numerals.{add-one}
 use native.Mathlib.Omega.{arith}
-use lib.Dec.{lit<}
 use lib.ListN.{length, get_or, set, length-set}
 use Rattle.words.specs.Words.{word}
 use Rattle.words.specs.Loops.{each, put}
-use Rattle.contraction.specs.Operands.{Operand, C, D}
+use Rattle.contraction.specs.declared.contraction.Operand.{Operand}
+use Rattle.contraction.specs.declared.contraction.Operand.TheVariants.{C, D}
 use Rattle.contraction.specs.TensorPlaces.{operand_number}
 use Rattle.groups.specs.Groups.{Label}
 use Rattle.groups.specs.Held.{labels_in}
@@ -62,66 +62,54 @@ c_inside {v} {c} k e h n = subst (λ (f : Operand → ℕ). f C < length c) (sym
 pub loop-v-init : goal.loop-v-init
 unfolding each
 loop-v-init c =
-    (omega arith, refl, at_first c.args.from c.args.step (words_fit c.args.from.words _ c.well_formed.1.1.1.1.1.1.1.0.1.1.0.1.1), refl)
+    (refl, at_first c.args.run.from c.args.run.step (words_fit c.args.run.from.words _ c.well_formed.1.1.0.1.1.0.1.1.0.1.1), refl)
 
 pub depth_sum-sum-requires : goal.depth_sum-sum-requires
 depth_sum-sum-requires c =
     let l = c.loop-v in
-    (c.requires.walks, subst (Readable (labels_in c.args.depth.group) c.args.a.now c.args.b.now) (sym l.invariant.2) (c.requires.clear.reads l.v (omega arith)), c.requires.rows)
-
-pub bounds-at-3 : goal.bounds-at-3
-bounds-at-3 c = lit< tt
+    subst (Readable (labels_in c.args.depth.now.walk.group) c.args.x.now.a.now c.args.x.now.b.now) (sym l.invariant.1) (c.requires.reads l._v (omega arith))
 
 pub offset_bounds-d-place : goal.offset_bounds-d-place
 offset_bounds-d-place c =
     let l = c.loop-v in
-    let h : words_in l.at D < length c.args.d.now = inside c.requires.clear l.invariant.2 (omega arith) in
+    let h : words_in l.at D < length c.args.d.now = inside c.requires l.invariant.1 (omega arith) in
     omega arith
 
 pub bounds-d-place : goal.bounds-d-place
 bounds-d-place c =
     let l = c.loop-v in
-    let h : words_in l.at D < length c.args.d.now = inside c.requires.clear l.invariant.2 (omega arith) in
+    let h : words_in l.at D < length c.args.d.now = inside c.requires l.invariant.1 (omega arith) in
     omega arith
-
-pub bounds-at-2 : goal.bounds-at-2
-bounds-at-2 c = lit< tt
 
 pub start_of-start-requires : goal.start_of-start-requires
 start_of-start-requires c =
     let l = c.loop-v in
-    c_inside c.requires.clear l.invariant.2 (omega arith)
-
-pub combine-requires : goal.combine-requires
-combine-requires c = tt
+    rw c.of.ensures (c_inside c.requires l.invariant.1 (omega arith))
 
 pub offset_bounds-d-place-in-loop-v : goal.offset_bounds-d-place-in-loop-v
 offset_bounds-d-place-in-loop-v c =
     let l = c.loop-v in
-    let h : words_in l.at D < length c.args.d.now = inside c.requires.clear l.invariant.2 (omega arith) in
+    let h : words_in l.at D < length c.args.d.now = inside c.requires l.invariant.1 (omega arith) in
     omega arith
 
 pub bounds-d-place-in-loop-v : goal.bounds-d-place-in-loop-v
 bounds-d-place-in-loop-v c =
     let l = c.loop-v in
-    let h : words_in l.at D < length c.args.d.now = inside c.requires.clear l.invariant.2 (omega arith) in
+    let h : words_in l.at D < length c.args.d.now = inside c.requires l.invariant.1 (omega arith) in
     omega arith
-
-pub plus-at-requires : goal.plus-at-requires
-plus-at-requires c = tt
 
 pub loop-v-preserved : goal.loop-v-preserved
 loop-v-preserved c =
     let l = c.loop-v in (
-      omega arith,
-      simp length-set l.invariant.1,
-      at_next c.args.from c.args.step l.at c.plus-at.result l.v l.invariant.2 c.plus-at.ensures,
-      turn _ _ _ _ _ _ _ (steps c.args.from c.args.step) _ _ _ _ _ _ _ l.invariant.2 l.invariant.3 c.depth_sum-sum.ensures
-          c.start_of-start.ensures c.combine.ensures,
+      simp length-set l.invariant.0,
+      at_next c.args.run.from c.args.run.step l.at c.plus-at.result l._v l.invariant.1 c.plus-at.ensures,
+      rw c.of-place.ensures
+          (turn _ _ _ _ _ _ _ (steps c.args.run.from c.args.run.step) _ _ _ _ _ _ _ l.invariant.1 l.invariant.2 c.depth_sum-sum.ensures
+          (rw (c.of-place.ensures, c.of.ensures) at c.start_of-start.ensures) c.combine.ensures),
     )
 
 pub returns : goal.returns
 returns c =
     let l = c.loop-v in
-    let e : l.v ≡ c.args.len = omega arith in
-    rw e at l.invariant.3
+    let e : l._v ≡ c.args.run.len = omega arith in
+    rw e at l.invariant.2

@@ -1,7 +1,7 @@
--- `store_block` meets its contract. The invariant: r is at most n, the address words are r steps from the first, and the words of D are those that r turns
--- leave. The measure is how many are left.
+-- `store_block` meets its contract. The invariant: the address words are r steps from the first, and the words of D are those that r turns
+-- leave.
 -- Assumes nothing.
-use Rattle.std.proofs.Common.{◌≡◌, ℕ, ◌-◌, ◌≤◌, Bool, List, length, get_or}
+use Rattle.std.proofs.Common.{◌≡◌, ℕ, Bool, List, length, get_or}
 use Rattle.words.specs.Loops.{each, put}
 use Rattle.words.specs.Stepped.{stepped}
 use Rattle.meaning.specs.Meaning.{start_of, combined}
@@ -13,8 +13,5 @@ made named alpha beta sums c at r old = combined alpha beta (get_or sums r 0) (s
 
 abbrev pub invariant-loop-r : goal.invariant-loop-r
 invariant-loop-r l =
-    (l.r ≤ l.n) × (length l.d ≡ length l.initial.d) × (l.at_c ≡ stepped l.from_c l.step_c l.r) × (l.at_d ≡ stepped l.from_d l.step_d l.r)
-    × (l.d ≡ each l.r (λ k. put (made l.named l.alpha l.beta l.sums l.c (stepped l.from_c l.step_c) k) (stepped l.from_d l.step_d k)) l.initial.d)
-
-abbrev pub decreases-loop-r : goal.decreases-loop-r
-decreases-loop-r l = l.n - l.r
+    (length l.d ≡ length l.initial.d) × (l.at_c ≡ stepped l.from_c l.step_c l.r) × (l.at_d ≡ stepped l.from_d l.step_d l.r)
+    × (l.d ≡ each l.r (λ k. put (made l.x.named l.x.alpha l.x.beta l.sums l.x.c.now (stepped l.from_c l.step_c) k) (stepped l.from_d l.step_d k)) l.initial.d)

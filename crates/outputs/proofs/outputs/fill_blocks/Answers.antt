@@ -1,7 +1,7 @@
--- `fill_blocks` meets its contract. The invariant: the words of D are those that the first v counts of the run leave, and where counts are left, the address
--- words are v steps from the first. A turn fills a block of the next counts, or those that are left. The measure is how many are left.
+-- `fill_blocks` meets its contract. The invariant: the address words are v steps from the first, and the words of D are those that the first v counts of the run
+-- leave. A turn fills a block of the next counts, or the last one those that are left.
 -- Assumes nothing.
-use Rattle.std.proofs.Common.{◌<◌, refl, ◌∙◌, arith}
+use Rattle.std.proofs.Common.{refl, arith}
 use Rattle.words.specs.Loops.{each}
 use Rattle.offsets.proofs.OwnedWords.{words_fit}
 use Rattle.sums.specs.Walk.{over}
@@ -12,34 +12,39 @@ use Rattle.outputs.proofs.outputs.fill_blocks.Goals as goal
 pub loop-v-init : goal.loop-v-init
 unfolding each
 loop-v-init c =
-    (omega arith, refl, λ h. steps_first c.args.from c.args.step (words_fit c.args.from.words _ c.well_formed.1.1.1.1.1.1.1.0.1.1.0.1.1), refl)
+    record {
+      within = omega arith;
+      at = steps_first c.args.run.from c.args.run.step (words_fit c.args.run.from.words _ c.well_formed.1.1.0.1.1.0.1.1.0.1.1);
+      d = refl;
+    }
 
 pub fill_block-requires : goal.fill_block-requires
 fill_block-requires c =
     let l = c.loop-v in
-    let e = c.clipped-n.ensures in
-    let w = c.width_of-width.ensures in
-    let h : l.v < c.args.len = omega arith in (
-      omega (arith, e, w.0),
+    let r = c.args.run in
+    let e = c.min.ensures in
+    let w = c.width_of-width.ensures in (
+      omega (arith, e, w.0, c.loop-v-test.true),
       omega (arith, e, w.1),
-      record {
-        walks = c.requires.walks;
-        rows = c.requires.rows;
-        clear = block_clear c.args.from c.args.step l.at l.v (l.invariant.2 h) c.clipped-n.result c.args.len (omega (arith, e)) (rw l.invariant.1 c.requires.clear);
-      },
+      block_clear r.from r.step l.at l.v l.invariant.at c.min.result r.len (omega (arith, e, c.loop-v-test.true)) (rw l.auto.d c.requires),
     )
 
 pub loop-v-preserved : goal.loop-v-preserved
 loop-v-preserved c =
-    let x = c.args in
+    let x = c.args.x.now in
+    let r = c.args.run in
     let l = c.loop-v in
-    let e = c.clipped-n.ensures in
-    let h : l.v < x.len = omega (arith, c.loop-v-test.true) in
-    let f = c.fill_block in
-    let n = c.clipped-n.result in (
-      omega (arith, e),
-      f.auto.d ∙ l.invariant.1,
-      λ i. leapt x.from x.step l.at l.v n (l.invariant.2 h) c.width_of-width.result (omega (arith, e)) c.times-leap.ensures c.plus-at.ensures,
-      block_turn x.from x.step l.at l.v (l.invariant.2 h) (filled x.named x.alpha x.beta (over x.depth) x.a.now x.b.now x.c.now) n x.d.now
-          l.invariant.3 f.ensures,
-    )
+    record {
+      within = omega arith;
+      at = leapt r.from r.step l.at l.v c.width_of-width.result l.invariant.at c.times-leap.ensures c.plus-at.ensures;
+      d = block_turn r.from r.step l.at l.v l.invariant.at (filled x.named x.alpha x.beta (over c.args.depth.now.walk) x.a.now x.b.now x.c.now) c.min.result c.args.d.now
+          (omega (arith, c.min.ensures)) l.invariant.d c.fill_block.ensures;
+    }
+
+pub returns-2 : goal.returns-2
+returns-2 c =
+    let x = c.args.x.now in
+    let r = c.args.run in
+    let l = c.loop-v in
+    block_turn r.from r.step l.at l.v l.invariant.at (filled x.named x.alpha x.beta (over c.args.depth.now.walk) x.a.now x.b.now x.c.now) c.min.result c.args.d.now
+    (omega (arith, c.min.ensures)) l.invariant.d c.fill_block.ensures

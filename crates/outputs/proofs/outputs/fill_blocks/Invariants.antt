@@ -1,7 +1,7 @@
--- `fill_blocks` meets its contract. The invariant: the words of D are those that the first v counts of the run leave, and where counts are left, the address
--- words are v steps from the first. A turn fills a block of the next counts, or those that are left. The measure is how many are left.
+-- `fill_blocks` meets its contract. The invariant: the address words are v steps from the first, and the words of D are those that the first v counts of the run
+-- leave. A turn fills a block of the next counts, or the last one those that are left.
 -- Assumes nothing.
-use Rattle.std.proofs.Common.{◌≡◌, ◌-◌, ◌<◌, ◌≤◌, length}
+use Rattle.std.proofs.Common.{◌≡◌, ◌≤◌}
 use Rattle.words.specs.Loops.{each}
 use Rattle.offsets.specs.Offsets.{words_in}
 use Rattle.sums.specs.Walk.{steps, over}
@@ -10,8 +10,8 @@ use Rattle.outputs.proofs.outputs.fill_blocks.Given as goal
 
 abbrev pub invariant-loop-v : goal.invariant-loop-v
 invariant-loop-v l =
-    (l.v ≤ l.len) × (length l.d ≡ length l.initial.d) × (l.v < l.len → words_in l.at ≡ steps l.initial.at l.step l.v)
-    × (l.d ≡ each l.v (λ k. filled l.named l.alpha l.beta (over l.depth) l.a l.b l.c (steps l.initial.at l.step k)) l.initial.d)
-
-abbrev pub decreases-loop-v : goal.decreases-loop-v
-decreases-loop-v l = l.len - l.v
+    record {
+      within : l.v ≤ l.run.len;
+      at : words_in l.at ≡ steps l.initial.at l.run.step l.v;
+      d : l.d ≡ each l.v (λ k. filled l.x.named l.x.alpha l.x.beta (over l.depth.walk) l.x.a.now l.x.b.now l.x.c.now (steps l.initial.at l.run.step k)) l.initial.d;
+    }

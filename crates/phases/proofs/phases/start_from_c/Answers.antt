@@ -24,14 +24,14 @@ module _ (p : Plan) (G : Cut) (x : Tile) (named : Bool) (c d : List ℕ) {r : Li
 pub copy_c-requires : goal.copy_c-requires
 copy_c-requires c =
     let q = c.requires in
-    (q.0, q.1, q.2 (both_true _ _ c.if-named-at.true).0, q.3)
+    (q.0, q.1 (both_true _ _ c.if-named-t.true).0, q.2)
 
-pub returns-then-named-at : goal.returns-then-named-at
-returns-then-named-at c =
+pub returns-then-named-t : goal.returns-then-named-t
+returns-then-named-t c =
     let s = c.args in
-    put_there s.p (cut_in s.g) s.at s.named s.c.now s.d.now c.if-named-at.true c.copy_c.ensures
+    put_there s.t.plan.now (cut_in s.t.grid.now) s.t.at s.named s.c.now s.d.now c.if-named-t.true c.copy_c.ensures
 
-pub returns-else-named-at : goal.returns-else-named-at
-returns-else-named-at c =
+pub returns-else-named-t : goal.returns-else-named-t
+returns-else-named-t c =
     let s = c.args in
-    as_it_was s.p (cut_in s.g) s.at s.named s.c.now s.d.now c.if-named-at.false refl
+    as_it_was s.t.plan.now (cut_in s.t.grid.now) s.t.at s.named s.c.now s.d.now c.if-named-t.false refl

@@ -1,9 +1,10 @@
 -- `contract` meets its contract: where a question refuses, nothing was written; where all pass, the plan's groups are the contraction's, folded, and
 -- filling D along them leaves the result.
 -- Assumes nothing.
-use mathlib.Core.Path.{◌≡◌, refl, sym, ap, ◌∙◌}
+use mathlib.Core.Path.{◌≡◌, sym, ap, ◌∙◌}
+use mathlib.Core.Bool.{Bool}
 use Prim.Native.Nat.{ℕ, ◌≤◌}
-use native.Mathlib.Omega.{arith}
+use Rattle.std.proofs.Common.{rules}
 use lib.ListN.{length}
 use Rattle.words.specs.Loops.{each}
 use Rattle.limits.specs.Limits.{labels_limit}
@@ -11,7 +12,8 @@ use Rattle.labels.specs.Labels.{labels}
 use Rattle.labels.specs.LetterSets.{has}
 use Rattle.contraction.specs.declared.contraction.Contraction.{Contraction}
 use Rattle.contraction.specs.declared.operands.Operands.{Operands}
-use Rattle.contraction.specs.Operands.{A, B, C, D, four, tensors, together}
+use Rattle.contraction.specs.Operands.{four, named, tensors, together}
+use Rattle.contraction.specs.declared.contraction.Operand.TheVariants.{A, B, C, D}
 use Rattle.contraction.specs.TensorAxes.{shape_of, Gathered, Ready}
 use Rattle.questions.proofs.Ready.{AllPassed, accepted_parts}
 use Rattle.groups.specs.declared.groups.Group.{Group}
@@ -69,49 +71,45 @@ module _ (k : Contraction) (w : Slices) (e : first_no k w ≡ 0) where
     depth_walks = (q.few_depth, rw q.depth (fold_foldable _ (group_foldable (tensors k) _ passed depth)))
 
     -- what `fill` asks, and what it leaves
-    module _ (outer inner : Walk) (ko : Walks (labels_in output) outer) (ki : Walks (labels_in deep) inner) where
-      fill_asks : Fillable k.named base outer inner (w A) (w B) (w C) (length (w D))
+    module _ (outer inner : Walk) (ko : Walks (labels_in output) outer) (ki : Walks (labels_in deep) inner) {b : Bool} (is : b ≡ named k) where
+      fill_asks : Fillable b base outer inner (w A) (w B) (w C) (length (w D))
       fill_asks =
           record {
             outputs = rw ko.labels ko;
             depths = rw ki.labels ki;
-            clear = rw (ko.labels, q.output, ki.labels, q.depth) (clear k w passed (words_in base) q.bases);
+            clear = rw (is, ko.labels, q.output, ki.labels, q.depth) (clear k w passed (words_in base) q.bases);
             distinct = rw (ko.labels, q.output) (distinct k w passed (words_in base) q.bases);
           }
 
-      fill_leaves : each (size (over outer)) (λ m. filled k.named k.alpha k.beta (over inner) (w A) (w B) (w C) (places base (over outer) m)) (w D) ≡ result k w
-      fill_leaves = rw (ko.labels, q.output, ki.labels, q.depth) (filled_result k w passed (words_in base) q.bases)
+      fill_leaves : each (size (over outer)) (λ m. filled b k.alpha k.beta (over inner) (w A) (w B) (w C) (places base (over outer) m)) (w D) ≡ result k w
+      fill_leaves = rw (is, ko.labels, q.output, ki.labels, q.depth) (filled_result k w passed (words_in base) q.bases)
 
--- the answer is 0, and so are the questions
-zero_found : {k m : ℕ} → k ≡ m → k ≡ 0 → m ≡ 0
-zero_found e z = sym e ∙ z
-
-pub returns-then-number-ne0 : goal.returns-then-number-ne0
-returns-then-number-ne0 c =
+pub returns-in_err-lists : goal.returns-in_err-lists
+returns-in_err-lists c =
     let w = four c.args.a.now c.args.b.now c.args.c.now c.args.d.now in
-    call_refused c.args.k w c.first_no-x.ensures.number (omega arith)
+    call_refused c.args.k w c.in_err-lists.field-0.0 c.from_residual.result c.from_residual.ensures.1 (search rules)
 
 pub folded-output-requires : goal.folded-output-requires
 folded-output-requires c =
     let k = c.args.k in
     let w = four c.args.a.now c.args.b.now c.args.c.now c.args.d.now in
-    let e : first_no k w ≡ 0 = zero_found c.first_no-x.ensures.number (omega arith) in
-    fold_needs k w e _ (c.first_no-x.ensures.lists (omega arith)) _
+    let e : first_no k w ≡ 0 = sym c.in_ok-lists.ensures.number in
+    fold_needs k w e _ c.in_ok-lists.ensures.lists _
 
 pub folded-depth-requires : goal.folded-depth-requires
 folded-depth-requires c =
     let k = c.args.k in
     let w = four c.args.a.now c.args.b.now c.args.c.now c.args.d.now in
-    let e : first_no k w ≡ 0 = zero_found c.first_no-x.ensures.number (omega arith) in
-    fold_needs k w e _ (c.first_no-x.ensures.lists (omega arith)) _
+    let e : first_no k w ≡ 0 = sym c.in_ok-lists.ensures.number in
+    fold_needs k w e _ c.in_ok-lists.ensures.lists _
 
 pub walk_of-requires : goal.walk_of-requires
 walk_of-requires c =
     let k = c.args.k in
     let w = four c.args.a.now c.args.b.now c.args.c.now c.args.d.now in
-    let e : first_no k w ≡ 0 = zero_found c.first_no-x.ensures.number (omega arith) in
+    let e : first_no k w ≡ 0 = sym c.in_ok-lists.ensures.number in
     let q =
-    walked k w e _ (c.first_no-x.ensures.lists (omega arith)) c.groups_of-sets.result c.groups_of-sets.ensures c.folded-output.result c.folded-depth.result
+    walked k w e _ c.in_ok-lists.ensures.lists c.groups_of-sets.result c.groups_of-sets.ensures c.folded-output.result c.folded-depth.result
     c.base_of.result c.folded-output.ensures c.folded-depth.ensures c.base_of.ensures in
     output_walks k w e _ _ _ q
 
@@ -119,9 +117,9 @@ pub walk_of-requires-2 : goal.walk_of-requires-2
 walk_of-requires-2 c =
     let k = c.args.k in
     let w = four c.args.a.now c.args.b.now c.args.c.now c.args.d.now in
-    let e : first_no k w ≡ 0 = zero_found c.first_no-x.ensures.number (omega arith) in
+    let e : first_no k w ≡ 0 = sym c.in_ok-lists.ensures.number in
     let q =
-    walked k w e _ (c.first_no-x.ensures.lists (omega arith)) c.groups_of-sets.result c.groups_of-sets.ensures c.folded-output.result c.folded-depth.result
+    walked k w e _ c.in_ok-lists.ensures.lists c.groups_of-sets.result c.groups_of-sets.ensures c.folded-output.result c.folded-depth.result
     c.base_of.result c.folded-output.ensures c.folded-depth.ensures c.base_of.ensures in
     depth_walks k w e _ _ _ q
 
@@ -129,19 +127,19 @@ pub fill-requires : goal.fill-requires
 fill-requires c =
     let k = c.args.k in
     let w = four c.args.a.now c.args.b.now c.args.c.now c.args.d.now in
-    let e : first_no k w ≡ 0 = zero_found c.first_no-x.ensures.number (omega arith) in
+    let e : first_no k w ≡ 0 = sym c.in_ok-lists.ensures.number in
     let q =
-    walked k w e _ (c.first_no-x.ensures.lists (omega arith)) c.groups_of-sets.result c.groups_of-sets.ensures c.folded-output.result c.folded-depth.result
+    walked k w e _ c.in_ok-lists.ensures.lists c.groups_of-sets.result c.groups_of-sets.ensures c.folded-output.result c.folded-depth.result
     c.base_of.result c.folded-output.ensures c.folded-depth.ensures c.base_of.ensures in
-    fill_asks k w e _ _ _ q c.walk_of.result c.walk_of-2.result c.walk_of.ensures c.walk_of-2.ensures
+    fill_asks k w e _ _ _ q c.walk_of.result c.walk_of-2.result c.walk_of.ensures c.walk_of-2.ensures c.is_some.ensures
 
 pub returns : goal.returns
 returns c =
     let k = c.args.k in
     let w = four c.args.a.now c.args.b.now c.args.c.now c.args.d.now in
-    let e : first_no k w ≡ 0 = zero_found c.first_no-x.ensures.number (omega arith) in
+    let e : first_no k w ≡ 0 = sym c.in_ok-lists.ensures.number in
     let q =
-    walked k w e _ (c.first_no-x.ensures.lists (omega arith)) c.groups_of-sets.result c.groups_of-sets.ensures c.folded-output.result c.folded-depth.result
+    walked k w e _ c.in_ok-lists.ensures.lists c.groups_of-sets.result c.groups_of-sets.ensures c.folded-output.result c.folded-depth.result
     c.base_of.result c.folded-output.ensures c.folded-depth.ensures c.base_of.ensures in
-    ap (plain_call_of plain_done) (c.fill.ensures ∙ fill_leaves k w e _ _ _ q c.walk_of.result c.walk_of-2.result c.walk_of.ensures c.walk_of-2.ensures)
-    ∙ call_done k w (sym e) refl
+    ap (plain_call_of plain_done) (c.fill.ensures ∙ fill_leaves k w e _ _ _ q c.walk_of.result c.walk_of-2.result c.walk_of.ensures c.walk_of-2.ensures c.is_some.ensures)
+    ∙ call_done k w e

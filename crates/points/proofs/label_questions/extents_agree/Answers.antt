@@ -8,7 +8,8 @@ use Rattle.words.specs.Sums.{every}
 use Rattle.words.proofs.Sums.{every_and}
 use Rattle.layout.specs.declared.layout.Axis.{Axis}
 use Rattle.labels.specs.Labels.{extent_of}
-use Rattle.contraction.specs.Operands.{A, B, C, D, together}
+use Rattle.contraction.specs.Operands.{together}
+use Rattle.contraction.specs.declared.contraction.Operand.TheVariants.{A, B, C, D}
 use Rattle.contraction.specs.TensorAxes.{shape_of}
 use Rattle.points.specs.LabelQuestions.{extents_agree}
 use Rattle.points.proofs.label_questions.extents_agree.Goals as goal

@@ -1,25 +1,27 @@
 -- `letters_same` meets its contract: a letter set has just the letters of its axes; where C is not named, its axes are D's.
 -- Assumes nothing.
 use mathlib.Core.Path.{sym, ◌∙◌}
-use borrow.Author.Tests.{not-true}
 use Rattle.layout.specs.Listed.{listed}
-use Rattle.contraction.specs.Operands.{C, D}
+use Rattle.contraction.specs.declared.contraction.Operand.TheVariants.{D}
+use Rattle.contraction.proofs.ListOfC.{lettered_c}
 use Rattle.points.specs.LabelQuestions.{letters_same}
 use Rattle.points.proofs.SameLetters.{among_set, same_itself}
 use Rattle.points.proofs.label_questions.letters_same.Goals as goal
 
-pub returns-then-not-x : goal.returns-then-not-x
-returns-then-not-x c = rw (c.requires.stands (not-true c.args.x.named c.if-not-x.true)) (sym (same_itself (listed c.args.x.d.axes)))
-
 pub letters_in-requires : goal.letters_in-requires
-letters_in-requires c = (c.requires.each C).checked.few
+letters_in-requires c = (lettered_c c.requires c.in-Some.is).checked.few
 
-pub letters_in-requires-2 : goal.letters_in-requires-2
-letters_in-requires-2 c = (c.requires.each D).checked.few
+pub letters_in-requires-in-Some : goal.letters_in-requires-in-Some
+letters_in-requires-in-Some c = (c.requires.each D).checked.few
 
-pub returns : goal.returns
+pub returns-in-Some : goal.returns-in-Some
 unfolding letters_same
-returns c =
+returns-in-Some c =
     let x = c.args.x in
-    let p = c.requires.each in
-    rw (c.letters_in.ensures ∙ among_set x.c x.d (p C) (p D), c.letters_in-2.ensures ∙ among_set x.d x.c (p D) (p C))
+    let l = c.in-Some.c in
+    let p = lettered_c c.requires c.in-Some.is in
+    let d = c.requires.each D in
+    rw (c.in-Some.is, c.letters_in.ensures ∙ among_set l x.d p d, c.letters_in-in-Some.ensures ∙ among_set x.d l d p)
+
+pub returns-in-None : goal.returns-in-None
+returns-in-None c = rw (c.in-None.is) (sym (same_itself (listed c.args.x.d.axes)))

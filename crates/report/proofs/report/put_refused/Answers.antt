@@ -8,10 +8,10 @@ use Rattle.report.proofs.report.put_refused.Goals as goal
 
 pub put_numbered-requires : goal.put_numbered-requires
 put_numbered-requires c =
-    omega (arith, length_decimal32 c.args.number c.ranges.number.fits)
+    rw c.from.ensures (omega (arith, length_decimal32 c.args.number c.ranges.number.fits))
 
 pub returns : goal.returns
 unfolding refused_text
 returns c =
     let x = c.args in
-    put_whole x.out.now (refused_text x.number) c.put_numbered.ensures
+    put_whole x.out.now (refused_text x.number) (rw c.from.ensures at c.put_numbered.ensures)

@@ -4,7 +4,7 @@ use Rattle.std.proofs.Common.{◌≡◌, ℕ, ◌+◌, ◌≤◌, min, List, get
 use Rattle.words.specs.Words.{word, word_of}
 use Rattle.words.proofs.Fronts.{get_or_front}
 use Rattle.limits.specs.Limits.{block_limit}
-use Rattle.contraction.specs.Operands.{Operand}
+use Rattle.contraction.specs.declared.contraction.Operand.{Operand}
 use Rattle.groups.specs.Groups.{Label}
 use Rattle.offsets.specs.Counts.{offset_in}
 use Rattle.block.specs.declared.block.Block.{Block}
@@ -27,4 +27,4 @@ blocked o g first count before few w of =
 
 pub returns : goal.returns
 returns c =
-    blocked _ _ _ _ _ c.requires.4 c.scatter_vector.ensures c.of.ensures
+    blocked _ _ _ _ _ c.requires.3 c.scatter_vector.ensures c.of.ensures

@@ -1,21 +1,20 @@
 -- `scatter_labels` meets its contract. The invariant: the first k counts stand at the front of the list, and where counts of the run are left, `at` is the word of the
--- count before. A turn forms the word of count k, anew or by one step, and stores it behind the others. The measure is how many counts are left.
+-- count before. A turn forms the word of count k, anew or by one step, and stores it behind the others.
 -- Assumes nothing.
-use Rattle.std.proofs.Common.{◌≡◌, ℕ, ◌+◌, ◌-◌, ◌%◌, ◌<◌, List, set, sym, refl, ap, ◌∙◌, add_assoc, mod-lt, arith}
+use Rattle.std.proofs.Common.{◌≡◌, ℕ, ◌+◌, ◌-◌, ◌%◌, ◌<◌, List, set, take, sym, refl, ap, ◌∙◌, add_assoc, mod-lt, arith, length-take}
 use Rattle.words.specs.Words.{word, word_of}
 use Rattle.words.proofs.Modular.{word_add_left, word_add_right}
 use Rattle.words.proofs.Fronts.{front_none, front_set}
-use Rattle.contraction.specs.Operands.{Operand}
-use Rattle.contraction.specs.TensorPlaces.{operand_at}
+use Rattle.contraction.specs.declared.contraction.Operand.{Operand}
 use Rattle.groups.specs.Groups.{Label, size}
 use Rattle.groups.specs.Held.{labels_in}
 use Rattle.offsets.specs.Counts.{offset_in}
 use Rattle.offsets.specs.FirstLabel.{first_label}
-use Rattle.offsets.proofs.Runs.{step_at, first_counts, next_lowest, offset_next}
+use Rattle.offsets.proofs.Runs.{first_counts, next_lowest, offset_next}
 use Rattle.scatter.specs.ScatterVectors.{word_at}
-use Rattle.scatter.proofs.Vectors.{same_long}
+use Rattle.scatter.proofs.Vectors.{front_whole}
 use Rattle.scatter.proofs.blocks.scatter_labels.Invariants.{AtCount, Before}
-use Rattle.scatter.proofs.blocks.scatter_labels.Goals.{At-loop-k, Joined-left-eq0, then-left-eq0, else-left-eq0}
+use Rattle.scatter.proofs.blocks.scatter_labels.Goals.{Joined-left-eq0, then-left-eq0, else-left-eq0}
 use Rattle.scatter.proofs.blocks.scatter_labels.Goals as goal
 
 module _ (g : List Label) {len : ℕ} (e : len ≡ (first_label g).extent) where
@@ -57,71 +56,56 @@ module _ (g : List Label) {len : ℕ} (e : len ≡ (first_label g).extent) where
       let q : left - 1 + 1 ≡ left = omega arith in
       record { last = λ p. (first + k, sym (add_assoc first k 1), rw q s) }
 
--- a run has a count
-runs_long : (c : At-loop-k) → c.loop-k.k < c.args.count → 0 < c.of-label.result.len
-runs_long c h = long (labels_in c.args.g) c.of-label.ensures.len {n = c.args.first + c.loop-k.k} (omega arith)
-
 -- where the two arms meet, `at` is the word of count k
-here : (c : Joined-left-eq0) → AtCount (operand_at c.args.o) c.args.from (labels_in c.args.g) c.of-label.result.len (c.args.first + c.loop-k.k) c.if-left-eq0.at c.if-left-eq0.left
+here : (c : Joined-left-eq0) → AtCount c.args.o c.args.from (labels_in c.args.g) c.of-label.result.len (c.args.first + c.loop-k.k) c.if-left-eq0.at c.if-left-eq0.left
 here c =
     let f = c.of-label.ensures in
-    let n : c.args.first + c.loop-k.k < size (labels_in c.args.g) = omega arith in
+    let n : c.args.first + c.loop-k.k < size (labels_in c.args.g) = omega (arith, length-take c.args.count c.args.out.now) in
     elim c.if-left-eq0.branch [
-      | then-left-eq0 w ↦ rw (w.at-is, w.left-is) (anew (labels_in c.args.g) f.len n w.offset_in.ensures w.wrapping_add_u64-at.ensures.value)
+      | then-left-eq0 w ↦ rw (w.at-is, w.left-is) (anew (labels_in c.args.g) f.len n w.offset_in.ensures refl)
       | else-left-eq0 w ↦
           rw (w.at-is, w.left-is)
-          (along (labels_in c.args.g) f.len _ (step_at _ f c.requires.1) c.loop-k.invariant.2 (omega (arith, w.if-left-eq0.false)) w.wrapping_add_u64-at-else-left-eq0.ensures.value)
+          (along (labels_in c.args.g) f.len _ (c.of-step.ensures ∙ f.step c.args.o) c.loop-k.invariant.1 (omega (arith, w.if-left-eq0.false)) refl)
     ]
 
 left_here : (c : Joined-left-eq0) → 0 < c.if-left-eq0.left
 left_here c =
-    some_left (labels_in c.args.g) c.of-label.ensures.len (omega arith) (here c)
+    some_left (labels_in c.args.g) c.of-label.ensures.len (omega (arith, length-take c.args.count c.args.out.now)) (here c)
 
 pub of-label-requires : goal.of-label-requires
 of-label-requires c = c.requires.0
 
-pub bounds-steps-o : goal.bounds-steps-o
-bounds-steps-o c = c.requires.1
-
 pub loop-k-init : goal.loop-k-init
 loop-k-init c =
     let s = c.args in
-    (omega arith, sym (front_none (λ i. word_at (operand_at s.o) s.from (labels_in s.g) (s.first + i)) s.out.now), record { last = λ h. absurd (omega arith) })
+    (sym (front_none (λ i. word_at s.o s.from (labels_in s.g) (s.first + i)) (take s.count s.out.now)), record { last = λ h. absurd (omega arith) })
 
 pub offset_in-requires : goal.offset_in-requires
-offset_in-requires c = (omega arith, omega arith, omega arith)
-
-pub wrapping_add_u64-at-requires : goal.wrapping_add_u64-at-requires
-wrapping_add_u64-at-requires c = tt
+offset_in-requires c = (omega arith, omega (arith, length-take c.args.count c.args.out.now))
 
 pub nonzero_rem-left : goal.nonzero_rem-left
-nonzero_rem-left c = runs_long c.before.before.before.before (omega arith)
+nonzero_rem-left c = long (labels_in c.args.g) c.of-label.ensures.len {n = c.args.first + c.loop-k.k} (omega (arith, length-take c.args.count c.args.out.now))
 
 pub overflow_sub-left : goal.overflow_sub-left
 overflow_sub-left c =
-    omega (arith, mod-lt (c.args.first + c.loop-k.k) (runs_long c.before.before.before.before (omega arith)))
-
-pub wrapping_add_u64-at-requires-else-left-eq0 : goal.wrapping_add_u64-at-requires-else-left-eq0
-wrapping_add_u64-at-requires-else-left-eq0 c = tt
+    let n = c.args.first + c.loop-k.k in
+    let some : 0 < c.of-label.result.len = long (labels_in c.args.g) c.of-label.ensures.len {n = n} (omega (arith, length-take c.args.count c.args.out.now)) in
+    omega (arith, mod-lt n some)
 
 pub overflow_sub-left-in-loop-k : goal.overflow_sub-left-in-loop-k
 overflow_sub-left-in-loop-k c = left_here c.before
-
-pub bounds-out-k : goal.bounds-out-k
-bounds-out-k c = omega (arith, same_long _ _ _ c.loop-k.invariant.1 (omega arith))
 
 pub loop-k-preserved : goal.loop-k-preserved
 loop-k-preserved c =
     let l = c.loop-k in
     let s = c.args in (
-      omega arith,
-      ap (λ (x : List ℕ). set x l.k c.if-left-eq0.at) l.invariant.1
-          ∙ front_set (λ i. word_at (operand_at s.o) s.from (labels_in s.g) (s.first + i)) s.out.now l.k c.if-left-eq0.at (omega arith) (here c.before).word,
+      ap (λ (x : List ℕ). set x l.k c.if-left-eq0.at) l.invariant.0
+          ∙ front_set (λ i. word_at s.o s.from (labels_in s.g) (s.first + i)) (take s.count s.out.now) l.k c.if-left-eq0.at (omega arith) (here c.before).word,
       passed (labels_in s.g) c.of-label.ensures.len s.first l.k (left_here c.before) (here c.before),
     )
 
 pub returns : goal.returns
 returns c =
-    let l = c.loop-k in
-    let z : l.k ≡ c.args.count = omega arith in
-    rw z at l.invariant.1
+    let s = c.args in
+    front_whole s.count (λ i. word_at s.o s.from (labels_in s.g) (s.first + i)) s.out.now c.requires.3
+    (omega (arith, length-take s.count s.out.now)) c.loop-k.invariant.0

@@ -1,9 +1,8 @@
 -- `scatter_labels` meets its contract. The invariant: the first k counts stand at the front of the list, and where counts of the run are left, `at` is the word of the
--- count before. A turn forms the word of count k, anew or by one step, and stores it behind the others. The measure is how many counts are left.
+-- count before. A turn forms the word of count k, anew or by one step, and stores it behind the others.
 -- Assumes nothing.
-use Rattle.std.proofs.Common.{◌≡◌, ℕ, ◌+◌, ◌-◌, ◌%◌, ◌<◌, ◌≤◌, List}
-use Rattle.contraction.specs.Operands.{Operand}
-use Rattle.contraction.specs.TensorPlaces.{operand_at}
+use Rattle.std.proofs.Common.{◌≡◌, ℕ, ◌+◌, ◌%◌, ◌<◌, List}
+use Rattle.contraction.specs.declared.contraction.Operand.{Operand}
 use Rattle.groups.specs.Groups.{Label}
 use Rattle.groups.specs.Held.{labels_in}
 use Rattle.scatter.specs.ScatterVectors.{word_at, scatter_vector}
@@ -20,7 +19,4 @@ pub record Before (o : Operand) (from : ℕ) (g : List Label) (len n at left : �
 
 abbrev pub invariant-loop-k : goal.invariant-loop-k
 invariant-loop-k l =
-    (l.k ≤ l.count) × (l.out ≡ scatter_vector (operand_at l.o) l.from (labels_in l.g) l.first l.k l.initial.out) × Before (operand_at l.o) l.from (labels_in l.g) l.len (l.first + l.k) l.at l.left
-
-abbrev pub decreases-loop-k : goal.decreases-loop-k
-decreases-loop-k l = l.count - l.k
+    (l.place-items ≡ scatter_vector l.o l.from (labels_in l.g) l.first l.k l.initial.place-items) × Before l.o l.from (labels_in l.g) l.len (l.first + l.k) l.at l.left

@@ -1,6 +1,6 @@
 -- `scatter_vector` meets its contract: the counts of a single label lie a step apart from the first one on.
 -- Assumes nothing.
-use Rattle.std.proofs.Common.{◌∙◌, arith}
+use Rattle.std.proofs.Common.{refl, ◌∙◌, arith}
 use Rattle.scatter.proofs.Vectors.{stepped_vector}
 use Rattle.scatter.proofs.blocks.scatter_vector.Goals as goal
 
@@ -9,4 +9,4 @@ returns-then-g-lt2 c =
     let x = c.args in
     c.step_vector.ensures
     ∙ stepped_vector _ x.g (omega arith) c.first_step-step.ensures x.from x.first x.count x.out.now
-    c.scale.ensures c.wrapping_add_u64-start.ensures.value c.requires.3
+    c.scale.ensures refl c.requires.2

@@ -1,5 +1,4 @@
 -- `add_moving` meets its contract. The invariant: the address words are v steps from the first, and each sum has grown by the products of v depth counts.
--- The measure is how many are left.
 -- Assumes nothing.
 use Rattle.std.proofs.Common.{arith}
 use Rattle.words.proofs.Modular.{step_none, step_more}
@@ -11,10 +10,9 @@ use Rattle.side_sums.proofs.side.add_moving.Goals as goal
 pub loop-v-init : goal.loop-v-init
 loop-v-init c =
     let x = c.args in (
-      omega arith,
-      step_none x.step_a c.ranges.from_a.fits,
-      step_none x.step_b c.ranges.from_b.fits,
-      run_none x.a.now x.b.now (side_run x.from_a x.along_a x.step_a) (side_run x.from_b x.along_b x.step_b) x.n x.sums.now,
+      step_none x.a.now.step (omega arith),
+      step_none x.b.now.step (omega arith),
+      run_none x.a.now.words.now x.b.now.words.now (side_run x.a.now.from x.a.now.along x.a.now.step) (side_run x.b.now.from x.b.now.along x.b.now.step) x.n x.sums.now,
     )
 
 pub add_products-requires : goal.add_products-requires
@@ -23,18 +21,17 @@ add_products-requires c =
     let l = c.loop-v in (
       c.requires.0,
       c.requires.1,
-      across x.from_a x.step_a x.along_a l.v l.invariant.1 (omega arith) (λ r h. (c.requires.3.each r h).in_a),
-      across x.from_b x.step_b x.along_b l.v l.invariant.2 (omega arith) (λ r h. (c.requires.3.each r h).in_b),
+      across x.a.now.from x.a.now.step x.a.now.along l._v l.invariant.0 (omega arith) (λ r h. (c.requires.3.each r h).in_a),
+      across x.b.now.from x.b.now.step x.b.now.along l._v l.invariant.1 (omega arith) (λ r h. (c.requires.3.each r h).in_b),
     )
 
 pub loop-v-preserved : goal.loop-v-preserved
 loop-v-preserved c =
     let x = c.args in
     let l = c.loop-v in (
-      omega arith,
-      step_more x.from_a x.step_a l.v l.invariant.1 c.wrapping_add_u64-i.ensures.value,
-      step_more x.from_b x.step_b l.v l.invariant.2 c.wrapping_add_u64-j.ensures.value,
-      run_turn x.a.now x.b.now (side_run x.from_a x.along_a x.step_a) (side_run x.from_b x.along_b x.step_b) x.n l.v
-          (products x.a.now l.i x.along_a x.b.now l.j x.along_b) c.requires.1 c.requires.2 l.invariant.3 c.add_products.ensures
-          (λ r h. rw (crossed x.from_a x.step_a x.along_a l.v r l.invariant.1, crossed x.from_b x.step_b x.along_b l.v r l.invariant.2)),
+      step_more x.a.now.from x.a.now.step l._v l.invariant.0 c.wrapping_add_u64-i.ensures.value,
+      step_more x.b.now.from x.b.now.step l._v l.invariant.1 c.wrapping_add_u64-j.ensures.value,
+      run_turn x.a.now.words.now x.b.now.words.now (side_run x.a.now.from x.a.now.along x.a.now.step) (side_run x.b.now.from x.b.now.along x.b.now.step) x.n l._v
+          (products x.a.now.words.now l.i x.a.now.along x.b.now.words.now l.j x.b.now.along) c.requires.1 c.requires.2 l.invariant.2 c.add_products.ensures
+          (λ r h. rw (crossed x.a.now.from x.a.now.step x.a.now.along l._v r l.invariant.0, crossed x.b.now.from x.b.now.step x.b.now.along l._v r l.invariant.1)),
     )

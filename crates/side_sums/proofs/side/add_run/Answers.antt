@@ -32,28 +32,28 @@ add_still-requires c =
       c.requires.0,
       c.requires.1,
       c.requires.2,
-      record { each = λ r h. record { in_a = (w.each r h).in_a; in_b = still_inside x.from_b x.step_b r c.if-along_b-eq0.true (w.each r h).in_b } },
+      record { each = λ r h. record { in_a = (w.each r h).in_a; in_b = still_inside x.b.now.from x.b.now.step r c.if-b-eq0.true (w.each r h).in_b } },
     )
 
-pub add_still-requires-then-along_a-eq0 : goal.add_still-requires-then-along_a-eq0
-add_still-requires-then-along_a-eq0 c =
+pub add_still-requires-then-a-eq0 : goal.add_still-requires-then-a-eq0
+add_still-requires-then-a-eq0 c =
     let x = c.args in
     let w = c.requires.3 in (
       c.requires.0,
       c.requires.1,
       c.requires.2,
-      record { each = λ r h. record { in_a = (w.each r h).in_b; in_b = still_inside x.from_a x.step_a r c.if-along_a-eq0.true (w.each r h).in_a } },
+      record { each = λ r h. record { in_a = (w.each r h).in_b; in_b = still_inside x.a.now.from x.a.now.step r c.if-a-eq0.true (w.each r h).in_a } },
     )
 
-pub returns-then-along_b-eq0 : goal.returns-then-along_b-eq0
-returns-then-along_b-eq0 c =
+pub returns-then-b-eq0 : goal.returns-then-b-eq0
+returns-then-b-eq0 c =
     let x = c.args in
     added_same c.add_still.ensures
-    (λ r. dot_ext x.a.now x.b.now x.len (λ v h. refl) (λ v h. rw (still x.from_b x.step_b r v c.if-along_b-eq0.true)))
+    (λ r. dot_ext x.a.now.words.now x.b.now.words.now x.len (λ v h. refl) (λ v h. rw (still x.b.now.from x.b.now.step r v c.if-b-eq0.true)))
 
-pub returns-then-along_a-eq0 : goal.returns-then-along_a-eq0
-returns-then-along_a-eq0 c =
+pub returns-then-a-eq0 : goal.returns-then-a-eq0
+returns-then-a-eq0 c =
     let x = c.args in
-    added_same c.add_still-then-along_a-eq0.ensures
-    (λ r. dot_turned x.a.now x.b.now x.len (stepped x.from_a x.step_a) (side_run x.from_b x.along_b x.step_b r)
-    ∙ dot_ext x.a.now x.b.now x.len (λ v h. rw (still x.from_a x.step_a r v c.if-along_a-eq0.true)) (λ v h. refl))
+    added_same c.add_still-then-a-eq0.ensures
+    (λ r. dot_turned x.a.now.words.now x.b.now.words.now x.len (stepped x.a.now.from x.a.now.step) (side_run x.b.now.from x.b.now.along x.b.now.step r)
+    ∙ dot_ext x.a.now.words.now x.b.now.words.now x.len (λ v h. rw (still x.a.now.from x.a.now.step r v c.if-a-eq0.true)) (λ v h. refl))

@@ -1,5 +1,4 @@
 -- `add_still` meets its contract. The invariant: the address words are v steps from the first, and each sum has grown by the products of v depth counts.
--- The measure is how many are left.
 -- Assumes nothing.
 use Rattle.std.proofs.Common.{◌<◌, length, arith}
 use Rattle.words.specs.Stepped.{stepped}
@@ -11,37 +10,35 @@ use Rattle.side_sums.proofs.side.add_still.Goals as goal
 pub loop-v-init : goal.loop-v-init
 loop-v-init c =
     let x = c.args in (
-      omega arith,
-      step_none x.step_x c.ranges.from_x.fits,
-      step_none x.step_y c.ranges.from_y.fits,
-      run_none x.x.now x.y.now (side_run x.from_x x.along x.step_x) (λ r. stepped x.from_y x.step_y) x.n x.sums.now,
+      step_none x.x.now.step (omega arith),
+      step_none x.y.now.step (omega arith),
+      run_none x.x.now.words.now x.y.now.words.now (side_run x.x.now.from x.x.now.along x.x.now.step) (λ r. stepped x.y.now.from x.y.now.step) x.n x.sums.now,
     )
 
 pub offset_bounds-y-j : goal.offset_bounds-y-j
 offset_bounds-y-j c =
     let l = c.loop-v in
-    let h : l.j < length c.args.y.now = rw l.invariant.2 ((c.requires.3.each 0 c.requires.0).in_b.each l.v c.loop-v-test.true) in
+    let h : l.j < length c.args.y.now.words.now = rw l.invariant.1 ((c.requires.3.each 0 c.requires.0).in_b.each l._v (omega arith)) in
     omega arith
 
 pub bounds-y-j : goal.bounds-y-j
 bounds-y-j c =
     let l = c.loop-v in
-    rw l.invariant.2 ((c.requires.3.each 0 c.requires.0).in_b.each l.v c.loop-v-test.true)
+    rw l.invariant.1 ((c.requires.3.each 0 c.requires.0).in_b.each l._v (omega arith))
 
 pub add_times-requires : goal.add_times-requires
 add_times-requires c =
     let x = c.args in
     let l = c.loop-v in
-    (c.requires.0, c.requires.1, across x.from_x x.step_x x.along l.v l.invariant.1 (omega arith) (λ r h. (c.requires.3.each r h).in_a))
+    (c.requires.0, c.requires.1, across x.x.now.from x.x.now.step x.x.now.along l._v l.invariant.0 (omega arith) (λ r h. (c.requires.3.each r h).in_a))
 
 pub loop-v-preserved : goal.loop-v-preserved
 loop-v-preserved c =
     let x = c.args in
     let l = c.loop-v in (
-      omega arith,
-      step_more x.from_x x.step_x l.v l.invariant.1 c.wrapping_add_u64-i.ensures.value,
-      step_more x.from_y x.step_y l.v l.invariant.2 c.wrapping_add_u64-j.ensures.value,
-      run_turn x.x.now x.y.now (side_run x.from_x x.along x.step_x) (λ r. stepped x.from_y x.step_y) x.n l.v
-          _ c.requires.1 c.requires.2 l.invariant.3 c.add_times.ensures
-          (λ r h. rw (crossed x.from_x x.step_x x.along l.v r l.invariant.1, l.invariant.2)),
+      step_more x.x.now.from x.x.now.step l._v l.invariant.0 c.wrapping_add_u64-i.ensures.value,
+      step_more x.y.now.from x.y.now.step l._v l.invariant.1 c.wrapping_add_u64-j.ensures.value,
+      run_turn x.x.now.words.now x.y.now.words.now (side_run x.x.now.from x.x.now.along x.x.now.step) (λ r. stepped x.y.now.from x.y.now.step) x.n l._v
+          _ c.requires.1 c.requires.2 l.invariant.2 c.add_times.ensures
+          (λ r h. rw (crossed x.x.now.from x.x.now.step x.x.now.along l._v r l.invariant.0, l.invariant.1)),
     )

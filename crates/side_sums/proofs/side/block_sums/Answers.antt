@@ -1,10 +1,11 @@
 -- `block_sums` meets its contract. The invariant: each sum has grown by the products at the counts of the first m runs, and where there is a run m, the digits
--- and address words are where it begins. A run's places are those of its counts. The measure is how many runs are left.
+-- and address words are where it begins. A run's places are those of its counts.
 -- Assumes nothing.
-use Rattle.std.proofs.Common.{◌≡◌, ℕ, ◌+◌, ◌*◌, ◌<◌, List, drop, replicate, sym, refl, ◌∙◌, mul-zero, arith, lit<}
+use Rattle.std.proofs.Common.{◌≡◌, ℕ, ◌+◌, ◌*◌, ◌<◌, List, drop, replicate, sym, refl, ◌∙◌, mul-zero, arith}
 use Rattle.words.specs.Sums.{sum_to}
 use Rattle.limits.specs.Limits.{block_limit}
-use Rattle.contraction.specs.Operands.{Operand, A, B}
+use Rattle.contraction.specs.declared.contraction.Operand.{Operand}
+use Rattle.contraction.specs.declared.contraction.Operand.TheVariants.{A, B}
 use Rattle.groups.specs.Groups.{Label}
 use Rattle.offsets.specs.declared.offsets.Offsets.{Offsets}
 use Rattle.offsets.specs.Offsets.{words_in}
@@ -35,63 +36,44 @@ module _ {g : List Label} {w : Walk} (k : Walks g w) (from along : Offsets) {m :
       → Added n (λ r. dot w.len (side A r) a (side B r) b) mid new → Added n (λ r. up_to g a b (w.len * (m + 1)) (steps from along r A) (steps from along r B)) old new
   turn = run_added k h (λ r. steps from along r A) (λ r. steps from along r B) (side A) (side B) (place A) (place B)
 
-pub bounds-step-0 : goal.bounds-step-0
-bounds-step-0 c = lit< tt
-
-pub bounds-step-1 : goal.bounds-step-1
-bounds-step-1 c = lit< tt
-
-pub bounds-along-0 : goal.bounds-along-0
-bounds-along-0 c = lit< tt
-
-pub bounds-along-1 : goal.bounds-along-1
-bounds-along-1 c = lit< tt
-
 pub loop-m-init : goal.loop-m-init
 unfolding dot sum_to
 loop-m-init c = (
-  omega arith,
   refl,
-  added_none c.args.n _ (replicate block_limit 0) (λ r. rw mul-zero),
-  λ h. first_run _ _ c.requires.2 c.requires.4 c.args.from (words_fit c.args.from.words _ c.well_formed.1.1.0.1.1.0.1.1),
+  added_none c.args.run.len _ (replicate block_limit 0) (λ r. rw mul-zero),
+  λ h. first_run _ _ c.args.depth.now.walks c.args.depth.now.carried c.args.run.from (words_fit c.args.run.from.words _ c.well_formed.1.1.0.1.1.0.1.1.0.1.1),
 )
-
-pub bounds-at-0 : goal.bounds-at-0
-bounds-at-0 c = lit< tt
-
-pub bounds-at-1 : goal.bounds-at-1
-bounds-at-1 c = lit< tt
 
 pub add_run-requires : goal.add_run-requires
 add_run-requires c =
     let l = c.loop-m in
-    let h : l.m < c.args.depth.runs = omega arith in
-    (c.requires.0, c.requires.1, l.invariant.2.len, inside c.requires.2 c.args.from c.args.along h (l.invariant.3 h) c.requires.3)
+    let h : l._m < c.args.depth.now.walk.runs = omega arith in (
+      c.requires.0,
+      c.requires.1,
+      l.invariant.1.len,
+      rw (c.of.ensures, c.of-in-loop-m.ensures, c.of-in-loop-m-2.ensures, c.of-in-loop-m-3.ensures, c.of-in-loop-m-4.ensures, c.of-in-loop-m-5.ensures)
+          (inside c.args.depth.now.walks c.args.run.from c.args.run.step h (l.invariant.2 h) c.requires.2),
+    )
 
 pub slice_bounds-advance-end : goal.slice_bounds-advance-end
-slice_bounds-advance-end c = sym c.loop-m.invariant.1
+slice_bounds-advance-end c = sym c.loop-m.invariant.0
 
 pub advance-at-requires : goal.advance-at-requires
-advance-at-requires c =
-    let r = c.requires.4 in
-    (omega (arith, r.few, c.loop-m.invariant.1), r.room)
-
-pub overflow_add-m : goal.overflow_add-m
-overflow_add-m c = omega (arith, c.well_formed.1.1.1.1.1.0.1)
+advance-at-requires c = omega (arith, c.args.depth.now.carried.few, c.loop-m.invariant.0)
 
 pub loop-m-preserved : goal.loop-m-preserved
 loop-m-preserved c =
     let l = c.loop-m in
-    let h : l.m < c.args.depth.runs = omega arith in (
-      omega arith,
-      c.advance-at.auto.digits ∙ l.invariant.1,
-      turn c.requires.2 c.args.from c.args.along h (l.invariant.3 h) c.args.a.now c.args.b.now l.invariant.2 c.add_run.ensures,
-      λ i. next_run _ _ c.requires.2 c.requires.4 c.advance-at.ensures (l.invariant.3 h) i,
+    let h : l._m < c.args.depth.now.walk.runs = omega arith in (
+      c.advance-at.auto.digits ∙ l.invariant.0,
+      turn c.args.depth.now.walks c.args.run.from c.args.run.step h (l.invariant.2 h) c.args.a.now c.args.b.now l.invariant.1
+          (rw (c.of.ensures, c.of-in-loop-m.ensures, c.of-in-loop-m-2.ensures, c.of-in-loop-m-3.ensures, c.of-in-loop-m-4.ensures, c.of-in-loop-m-5.ensures) at c.add_run.ensures),
+      λ i. next_run _ _ c.args.depth.now.walks c.args.depth.now.carried c.advance-at.ensures (l.invariant.2 h) i,
     )
 
 pub returns : goal.returns
 unfolding sum_from
 returns c =
     let l = c.loop-m in
-    let z : l.m ≡ c.args.depth.runs = omega arith in
-    total c.requires.1 (rw (z, ← c.requires.2.counts) at l.invariant.2)
+    let z : l._m ≡ c.args.depth.now.walk.runs = omega arith in
+    total c.requires.1 (rw (z, ← c.args.depth.now.walks.counts) at l.invariant.1)

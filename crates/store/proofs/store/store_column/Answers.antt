@@ -4,6 +4,7 @@ use Rattle.std.proofs.Common.{◌≡◌, ℕ, ◌+◌, List, get_or, refl, ap, �
 use Rattle.words.specs.Loops.{each, put}
 use Rattle.words.specs.Stepped.{stepped}
 use Rattle.words.proofs.Loops.{each_more, each_next}
+use Rattle.block.specs.Places.{place_of}
 use Rattle.block.proofs.Stretches.{stretch_of, within_stretch}
 use Rattle.accumulate.specs.Added.{added_to}
 use Rattle.store.proofs.store.store_column.Invariants.{row_added}
@@ -26,16 +27,17 @@ pub add_stretch-requires : goal.add_stretch-requires
 add_stretch-requires c =
     let a = c.args in
     let l = c.loop-r in
-    let t = stretch_of a.from a.offsets.now a.count l.r c.requires.0 (omega arith) c.wrapping_add_u64-at.ensures.value c.step_at.ensures c.requires.1 c.wide-n.ensures in
+    let t = stretch_of a.from a.offsets.now a.count l.r c.requires.0 (omega arith) refl c.step_at.ensures c.requires.1 c.from-n.ensures in
     (t.some, rw l.invariant.1 (within_stretch t c.requires.2), omega (arith, t.fits, c.requires.0))
 
 pub loop-r-preserved : goal.loop-r-preserved
 loop-r-preserved c =
     let a = c.args in
     let l = c.loop-r in
-    let t = stretch_of a.from a.offsets.now a.count l.r c.requires.0 (omega arith) c.wrapping_add_u64-at.ensures.value c.step_at.ensures c.requires.1 c.wide-n.ensures in
-    let n = c.wide-n.result in
-    let more : ℕ → List ℕ → List ℕ = λ k. put (added_to a.f (get_or a.sums.now (l.r + k) 0)) (stepped c.wrapping_add_u64-at.result c.step_at.result k) in (
+    let t = stretch_of a.from a.offsets.now a.count l.r c.requires.0 (omega arith) refl c.step_at.ensures c.requires.1 c.from-n.ensures in
+    let n = c.from-n.result in
+    let at = place_of a.from a.offsets.now l.r in
+    let more : ℕ → List ℕ → List ℕ = λ k. put (added_to a.f (get_or a.sums.now (l.r + k) 0)) (stepped at c.step_at.result k) in (
       t.fits,
       c.add_stretch.auto.d ∙ l.invariant.1,
       c.add_stretch.ensures ∙ ap (each n more) l.invariant.2

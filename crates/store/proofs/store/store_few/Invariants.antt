@@ -1,6 +1,6 @@
--- `store_few` meets its contract. The invariant: D's words are those that r rows leave. The measure is how many rows are left.
+-- `store_few` meets its contract. The invariant: D's words are those that r rows leave.
 -- Assumes nothing.
-use Rattle.std.proofs.Common.{◌≡◌, ◌-◌, ◌≤◌, length, get_or}
+use Rattle.std.proofs.Common.{◌≡◌, length, get_or}
 use Rattle.words.specs.Loops.{each, put}
 use Rattle.block.specs.Places.{place_of}
 use Rattle.accumulate.specs.Added.{added_to}
@@ -8,7 +8,4 @@ use Rattle.store.proofs.store.store_few.Given as goal
 
 abbrev pub invariant-loop-r : goal.invariant-loop-r
 invariant-loop-r l =
-    (l.r ≤ l.count) × (length l.d ≡ length l.initial.d) × (l.d ≡ each l.r (λ k. put (added_to l.f (get_or l.sums k 0)) (place_of l.from l.offsets k)) l.initial.d)
-
-abbrev pub decreases-loop-r : goal.decreases-loop-r
-decreases-loop-r l = l.count - l.r
+    (length l.d ≡ length l.initial.d) × (l.d ≡ each l.r (λ k. put (added_to l.f (get_or l.sums k 0)) (place_of l.from l.offsets k)) l.initial.d)

@@ -1,63 +1,72 @@
--- `pack_by_two` meets its contract. The invariant: where a place is left, `at` is k steps from the first, and the words of `out` are those with k words of the
--- stretch stored in each lane. A turn stores two more, or the last one. The measure is how many places are left.
-use Rattle.std.proofs.Common.{◌≡◌, ℕ, ◌+◌, ◌<◌, List, get_or, sym, refl, ap, ◌∙◌, arith}
+-- `pack_by_two` meets its contract. The invariant: a place is left, `at` is k steps from the first, and the words of `out` are those with k words of the stretch
+-- stored in each lane. A turn stores two more, or the last one.
+use Rattle.std.proofs.Common.{◌≡◌, ℕ, ◌+◌, ◌≤◌, List, get_or, sym, ap, ◌∙◌, arith}
 use Rattle.words.specs.Words.{word}
 use Rattle.words.specs.Stepped.{stepped}
 use Rattle.words.proofs.Modular.{step_none, steps_add}
-use Rattle.stretch.specs.StretchLanes.{lanes_stored}
+use Rattle.stretch.specs.declared.stretch.Lanes.{Lanes}
+use Rattle.stretch.specs.declared.stretch.Stretch.{Stretch}
+use Rattle.stretch.specs.StretchLanes.{lanes_stored, stretch_stored}
 use Rattle.stretch.proofs.StretchLanes.{lanes_more, lanes_none}
 use Rattle.stretch.proofs.stretch.pack_by_two.Goals as goal
 
--- word k of the stretch in lane d + q
-abbrev word_at : List ℕ → List ℕ → ℕ → ℕ → ℕ → ℕ → ℕ → ℕ
-word_at src starts d offset step q k = get_or src (stepped (word 64 (get_or starts (d + q) 0 + offset)) step k) 0
-
 -- two steps at a time
-two_steps : (x s k : ℕ) {at double next : ℕ} → at ≡ stepped x s k → double ≡ word 64 (s + s) → next ≡ word 64 (at + double) → next ≡ stepped x s (k + 2)
-two_steps x s k e f g = omega arith
+two_steps : (x s k : ℕ) {at : ℕ} → at ≡ stepped x s k → word 64 (at + word 64 (s + s)) ≡ stepped x s (k + 2)
+two_steps x s k e = omega arith
 
--- the words from place k on, read from where the lanes have them
-further : (src starts : List ℕ) (d offset step k : ℕ) {at : ℕ} → at ≡ stepped offset step k → (q j : ℕ) → word_at src starts d at step q j ≡ word_at src starts d offset step q (k + j)
-further src starts d offset step k e q j = rw e (ap (λ (p : ℕ). get_or src p 0) (steps_add (get_or starts (d + q) 0) offset step k j))
+-- the words of a stretch, the first k of which are stored, and n after them
+more : (b : Lanes) (s : Stretch) (k n to : ℕ) {at m : ℕ} (xs : List ℕ) {out after : List ℕ} → k + n ≤ b.width → at ≡ stepped s.offset s.step k → m ≡ k + n
+    → out ≡ stretch_stored b (record s { len = k }) to xs → after ≡ stretch_stored b (record { offset = at; step = s.step; len = n }) (to + k) out
+    → after ≡ stretch_stored b (record s { len = m }) to xs
+more b s k n to {at} {m} xs {out} {after} fits e sum p q =
+    let v : ℕ → ℕ → ℕ → ℕ = λ x q j. get_or b.src.now (stepped (word 64 (get_or b.starts.now (b.first + q) 0 + x)) s.step j) 0 in
+    rw sum
+    (q ∙ ap (lanes_stored b.count n b.width (v at) (to + k)) p
+    ∙ lanes_more b.width b.count k n (v s.offset) (v at) to xs fits
+    (λ q j h i. rw e (ap (λ (p : ℕ). get_or b.src.now p 0) (steps_add (get_or b.starts.now (b.first + q) 0) s.offset s.step k j))))
 
 pub loop-k-init : goal.loop-k-init
 loop-k-init c =
-    let a = c.args in (
-      omega arith,
-      refl,
-      λ h. step_none {x = a.offset} a.step (omega (arith, c.ranges.offset)),
-      sym (lanes_none a.width a.m (word_at a.src.now a.starts.now a.d a.offset a.step) a.to a.out.now),
-    )
+    let b = c.args.lanes in
+    let s = c.args.s in
+    let v : ℕ → ℕ → ℕ = λ q k. get_or b.src.now (stepped (word 64 (get_or b.starts.now (b.first + q) 0 + s.offset)) s.step k) 0 in
+    record {
+      left = omega (arith, c.requires.some);
+      at = step_none {x = s.offset} s.step (omega arith);
+      out = sym (lanes_none b.width b.count v c.args.to c.args.out.now);
+    }
 
 pub pack_lanes-requires : goal.pack_lanes-requires
 pack_lanes-requires c =
-    let a = c.args in
+    let b = c.args.lanes in
+    let s = c.args.s in
     let l = c.loop-k in
-    let w = c.two_of-w in
-    let b : l.k < a.n = omega arith in
+    let w = c.min.ensures in
     record {
-      some = w.ensures.2 (omega arith);
-      few = omega (arith, w.ensures.1);
-      fits = omega (arith, w.ensures.0, c.requires.fits);
+      some = omega arith;
+      few = omega arith;
+      fits = omega (arith, c.requires.fits);
       any = c.requires.any;
       lanes = c.requires.lanes;
-      reads = λ q h. record { each = λ j i. rw (l.invariant.2 b, steps_add (get_or a.starts.now (a.d + q) 0) a.offset a.step l.k j) ((c.requires.reads q h).each (l.k + j) (omega (arith, w.ensures.0))) };
-      room = record { each = λ q h. omega (arith, w.ensures.0, c.requires.room.each q h) };
+      reads = λ q h. record { each = λ j i. rw (l.invariant.at, steps_add (get_or b.starts.now (b.first + q) 0) s.offset s.step l.k j) ((c.requires.reads q h).each (l.k + j) (omega arith)) };
+      room = record { each = λ q h. omega (arith, c.requires.room.each q h) };
     }
 
 pub loop-k-preserved : goal.loop-k-preserved
 loop-k-preserved c =
-    let a = c.args in
+    let b = c.args.lanes in
+    let s = c.args.s in
     let l = c.loop-k in
-    let w = c.two_of-w in
-    let b : l.k < a.n = omega arith in
-    let lanes = c.pack_lanes in
-    let v = word_at a.src.now a.starts.now a.d a.offset a.step in
-    let u = word_at a.src.now a.starts.now a.d l.at a.step in (
-      omega (arith, w.ensures.0),
-      lanes.auto.out ∙ l.invariant.1,
-      λ h. rw (w.ensures.3 (omega arith)) (two_steps a.offset a.step l.k (l.invariant.2 b) c.wrapping_add_u64-double.ensures.value c.wrapping_add_u64-at.ensures.value),
-      lanes.ensures ∙ ap (lanes_stored a.m w.result a.width u (a.to + l.k)) l.invariant.3
-          ∙ lanes_more a.width a.m l.k w.result v u a.to a.out.now (omega (arith, w.ensures.0, c.requires.fits))
-          (λ q j h i. further a.src.now a.starts.now a.d a.offset a.step l.k (l.invariant.2 b) q j),
-    )
+    record {
+      left = omega arith;
+      at = two_steps s.offset s.step l.k l.invariant.at;
+      out = more b s l.k c.min.result c.args.to c.args.out.now (omega (arith, c.requires.fits)) l.invariant.at (omega arith) l.invariant.out c.pack_lanes.ensures;
+    }
+
+pub returns : goal.returns
+returns c = absurd (omega arith)
+
+pub returns-2 : goal.returns-2
+returns-2 c =
+    let l = c.loop-k in
+    more c.args.lanes c.args.s l.k c.min.result c.args.to c.args.out.now (omega (arith, c.requires.fits)) l.invariant.at (omega arith) l.invariant.out c.pack_lanes.ensures

@@ -1,22 +1,22 @@
 -- `pack_lanes` meets its contract. The invariant: the words of `out` are those with the stretch's words stored in q lanes. A turn stores them in one more.
--- The measure is how many lanes are left.
-use Rattle.std.proofs.Common.{◌+◌, ◌*◌, refl, ◌∙◌, arith}
+use Rattle.std.proofs.Common.{◌≡◌, ℕ, ◌+◌, ◌*◌, get_or, refl, arith}
+use Rattle.words.specs.Words.{word}
 use Rattle.words.specs.Loops.{each}
 use Rattle.words.specs.Fronts.{stored}
+use Rattle.words.specs.Stepped.{stepped}
 use Rattle.words.proofs.Loops.{each_next}
-use Rattle.stretch.proofs.stretch.pack_lanes.Invariants.{word_at}
 use Rattle.stretch.proofs.stretch.pack_lanes.Goals as goal
 
 pub loop-q-init : goal.loop-q-init
 unfolding each
-loop-q-init c = (omega arith, refl, refl)
+loop-q-init c = refl
 
 pub loop-q-preserved : goal.loop-q-preserved
 loop-q-preserved c =
-    let s = c.args in
-    let l = c.loop-q in
-    let v = word_at s.src.now s.starts.now s.d s.offset s.step in (
-      omega arith,
-      c.pack_words.auto.out ∙ l.invariant.1,
-      each_next (λ q. stored s.n (v q) (s.to + s.width * q)) l.q s.out.now l.invariant.2 (rw c.wrapping_add_u64-at.ensures.value at c.pack_words.ensures),
-    )
+    let b = c.args.lanes in
+    let s = c.args.s in
+    let v : ℕ → ℕ → ℕ = λ q k. get_or b.src.now (stepped (word 64 (get_or b.starts.now (b.first + q) 0 + s.offset)) s.step k) 0 in
+    each_next (λ q. stored s.len (v q) (c.args.to + b.width * q)) c.loop-q.q c.args.out.now c.loop-q.invariant c.pack_words.ensures
+
+pub returns : goal.returns
+returns c = let z : c.loop-q.q ≡ c.args.lanes.count = omega arith in rw z at c.loop-q.invariant

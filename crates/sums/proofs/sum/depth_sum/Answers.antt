@@ -5,7 +5,8 @@ use Rattle.words.specs.Words.{word}
 use Rattle.words.specs.Loops.{Within}
 use Rattle.words.specs.Stepped.{stepped}
 use Rattle.words.proofs.Sums.{sum_to_ext}
-use Rattle.contraction.specs.Operands.{Operand, A, B}
+use Rattle.contraction.specs.declared.contraction.Operand.{Operand}
+use Rattle.contraction.specs.declared.contraction.Operand.TheVariants.{A, B}
 use Rattle.groups.specs.Groups.{Label, size}
 use Rattle.offsets.specs.Offsets.{words_in}
 use Rattle.sums.specs.declared.walk.Walk.{Walk}
@@ -28,9 +29,9 @@ module _ {g : List Label} {w : Walk} (k : Walks g w) (one : w.runs ≡ 1) where
 
 pub run_sum-requires : goal.run_sum-requires
 run_sum-requires c =
-    let in_run_lem = inside c.requires.0 (omega arith) in
-    record { in_a = in_run_lem A _ _ c.requires.1.in_a; in_b = in_run_lem B _ _ c.requires.1.in_b }
+    let in_run_lem = inside c.args.depth.now.walks (omega arith) in
+    record { in_a = rw (c.of.ensures, c.of-then-depth-eq1-2.ensures) (in_run_lem A _ _ c.requires.in_a); in_b = rw (c.of-then-depth-eq1.ensures, c.of-then-depth-eq1-3.ensures) (in_run_lem B _ _ c.requires.in_b) }
 
 pub returns-then-depth-eq1 : goal.returns-then-depth-eq1
 returns-then-depth-eq1 c =
-    c.run_sum.ensures ∙ ap (word 32) (sums c.requires.0 (omega arith) _ _ (words_in c.args.from))
+    (rw (c.of.ensures, c.of-then-depth-eq1.ensures, c.of-then-depth-eq1-2.ensures, c.of-then-depth-eq1-3.ensures) at c.run_sum.ensures) ∙ ap (word 32) (sums c.args.depth.now.walks (omega arith) _ _ (words_in c.args.from))

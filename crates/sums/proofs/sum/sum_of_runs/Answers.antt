@@ -1,14 +1,14 @@
 -- `sum_of_runs` meets its contract. The invariant: the sum is the word of the dot product over the counts of the first m runs, and where there is a run m, the
--- digits and address words are where it begins. A run's places are those of its counts, so its sum is the next part of that product. The measure is how many
--- runs are left.
+-- digits and address words are where it begins. A run's places are those of its counts, so its sum is the next part of that product.
 -- Assumes nothing.
-use Rattle.std.proofs.Common.{◌≡◌, ℕ, ◌+◌, ◌*◌, ◌<◌, List, drop, sym, refl, ap, ◌∙◌, mul-zero, mul-suc, add-one, arith, lit<}
+use Rattle.std.proofs.Common.{◌≡◌, ℕ, ◌+◌, ◌*◌, ◌<◌, List, drop, sym, refl, ap, ◌∙◌, mul-zero, mul-suc, add-one, arith}
 use Rattle.words.specs.Words.{word}
 use Rattle.words.specs.Sums.{sum_to}
 use Rattle.words.specs.Loops.{Within}
 use Rattle.words.specs.Stepped.{stepped}
 use Rattle.words.proofs.Sums.{sum_to_ext, sum_to_add}
-use Rattle.contraction.specs.Operands.{Operand, A, B}
+use Rattle.contraction.specs.declared.contraction.Operand.{Operand}
+use Rattle.contraction.specs.declared.contraction.Operand.TheVariants.{A, B}
 use Rattle.groups.specs.Groups.{Label, size}
 use Rattle.offsets.specs.declared.offsets.Offsets.{Offsets}
 use Rattle.offsets.specs.Offsets.{words_in}
@@ -41,58 +41,38 @@ module _ {g : List Label} {w : Walk} (k : Walks g w) {x : Operand → ℕ} {m : 
       rw (add-one, mul-suc)
       (parts (w.len * m) w.len (term g a b x) es (ep ∙ ap (word 32) (sum_to_ext w.len (λ v l. rw (place A v l, place B v l)))) er)
 
-pub bounds-step-0 : goal.bounds-step-0
-bounds-step-0 c = lit< tt
-
-pub bounds-step-1 : goal.bounds-step-1
-bounds-step-1 c = lit< tt
-
 pub loop-m-init : goal.loop-m-init
 unfolding sum_to
 loop-m-init c =
-    (omega arith, refl, rw mul-zero, λ h. first_run _ _ c.requires.0 c.requires.2 c.args.from (words_fit c.args.from.words _ c.well_formed.1.1.0.1.1.0.1.1))
+    (refl, rw mul-zero, λ h. first_run _ _ c.args.depth.now.walks c.args.depth.now.carried c.args.from (words_fit c.args.from.words _ c.well_formed.1.1.0.1.1.0.1.1))
 
-pub bounds-at-0 : goal.bounds-at-0
-bounds-at-0 c = lit< tt
-
-pub bounds-at-1 : goal.bounds-at-1
-bounds-at-1 c = lit< tt
-
-pub run_sum-requires : goal.run_sum-requires
-run_sum-requires c =
+pub run_sum-run-requires : goal.run_sum-run-requires
+run_sum-run-requires c =
     let l = c.loop-m in
-    let h : l.m < c.args.depth.runs = omega arith in
-    let run = inside c.requires.0 h (l.invariant.3 h) in
-    record { in_a = run A _ c.requires.1.in_a; in_b = run B _ c.requires.1.in_b }
-
-pub wrapping_add_u32-sum-requires : goal.wrapping_add_u32-sum-requires
-wrapping_add_u32-sum-requires c = tt
+    let h : l._m < c.args.depth.now.walk.runs = omega arith in
+    let run = inside c.args.depth.now.walks h (l.invariant.2 h) in
+    record { in_a = rw (c.of-i.ensures, c.of-step_a.ensures) (run A _ c.requires.in_a); in_b = rw (c.of-j.ensures, c.of-step_b.ensures) (run B _ c.requires.in_b) }
 
 pub slice_bounds-advance-end : goal.slice_bounds-advance-end
-slice_bounds-advance-end c = sym c.loop-m.invariant.1
+slice_bounds-advance-end c = sym c.loop-m.invariant.0
 
 pub advance-at-requires : goal.advance-at-requires
-advance-at-requires c =
-    let r = c.requires.2 in
-    (omega (arith, r.few, c.loop-m.invariant.1), r.room)
-
-pub overflow_add-m : goal.overflow_add-m
-overflow_add-m c = omega (arith, c.well_formed.1.1.1.0.1)
+advance-at-requires c = omega (arith, c.args.depth.now.carried.few, c.loop-m.invariant.0)
 
 pub loop-m-preserved : goal.loop-m-preserved
 loop-m-preserved c =
     let l = c.loop-m in
-    let h : l.m < c.args.depth.runs = omega arith in (
-      omega arith,
-      c.advance-at.auto.digits ∙ l.invariant.1,
-      turn c.requires.0 h (l.invariant.3 h) c.args.a.now c.args.b.now l.invariant.2 c.run_sum.ensures
+    let h : l._m < c.args.depth.now.walk.runs = omega arith in (
+      c.advance-at.auto.digits ∙ l.invariant.0,
+      turn c.args.depth.now.walks h (l.invariant.2 h) c.args.a.now c.args.b.now l.invariant.1
+          (rw (c.of-i.ensures, c.of-j.ensures, c.of-step_a.ensures, c.of-step_b.ensures) at c.run_sum-run.ensures)
           c.wrapping_add_u32-sum.ensures.value,
-      λ i. next_run _ _ c.requires.0 c.requires.2 c.advance-at.ensures (l.invariant.3 h) i,
+      λ i. next_run _ _ c.args.depth.now.walks c.args.depth.now.carried c.advance-at.ensures (l.invariant.2 h) i,
     )
 
 pub returns : goal.returns
 unfolding sum_from dot
 returns c =
     let l = c.loop-m in
-    let z : l.m ≡ c.args.depth.runs = omega arith in
-    rw (z, ← c.requires.0.counts) at l.invariant.2
+    let z : l._m ≡ c.args.depth.now.walk.runs = omega arith in
+    rw (z, ← c.args.depth.now.walks.counts) at l.invariant.1

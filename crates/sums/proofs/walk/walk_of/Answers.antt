@@ -8,9 +8,9 @@ use Rattle.groups.specs.Groups.{size}
 use Rattle.groups.specs.Held.{labels_in}
 use Rattle.groups.specs.Foldable.{Foldable}
 use Rattle.groups.proofs.Points.{size_points}
-use Rattle.offsets.specs.declared.first_label.FirstLabel.{FirstLabel}
-use Rattle.offsets.specs.FirstLabel.{FirstLabelOf}
 use Rattle.offsets.proofs.Runs.{size_behind}
+use Rattle.counts.specs.declared.first_label.FirstLabel.{FirstLabel}
+use Rattle.counts.specs.FirstLabelOf.{FirstLabelOf}
 use Rattle.sums.specs.Walk.{Walks}
 use Rattle.sums.proofs.walk.walk_of.Goals as goal
 

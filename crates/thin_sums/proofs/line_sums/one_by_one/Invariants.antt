@@ -1,15 +1,13 @@
--- `one_by_one` meets its contract. The invariant: the first r sums are there; each is that along a run of places. The measure is how many are left.
+-- `one_by_one` meets its contract. The invariant: the first r sums are there; each is that along a run of places.
 -- Assumes nothing.
-use Rattle.std.proofs.Common.{◌≡◌, ◌-◌, ◌≤◌, length}
+use Rattle.std.proofs.Common.{◌≡◌, length}
 use Rattle.words.specs.Words.{word}
 use Rattle.words.proofs.Filled.{Filled}
 use Rattle.limits.specs.Limits.{block_limit}
-use Rattle.thin_sums.specs.LineSums.{line_sum}
+use Rattle.thin_sums.specs.Sides.{side_sum}
 use Rattle.thin_sums.proofs.line_sums.one_by_one.Given as goal
 
 abbrev pub invariant-loop-r : goal.invariant-loop-r
 invariant-loop-r l =
-    (l.r ≤ l.n) × (length l.initial.sums ≡ block_limit) × Filled (λ i. word 32 (line_sum l.src l.starts l.offsets l.line l.depth i)) l.initial.sums l.sums l.r
-
-abbrev pub decreases-loop-r : goal.decreases-loop-r
-decreases-loop-r l = l.n - l.r
+    let x = l.x in
+    (length l.initial.sums ≡ block_limit) × Filled (λ i. word 32 (side_sum x l.line i)) l.initial.sums l.sums l.r

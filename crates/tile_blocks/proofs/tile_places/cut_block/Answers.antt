@@ -5,6 +5,5 @@ use Rattle.tile_blocks.proofs.tile_places.cut_block.Goals as goal
 
 pub block_of-requires : goal.block_of-requires
 block_of-requires c =
-    let q = c.requires in
-    let e = part_ends q.0 c.width_of.ensures in
-    (q.0.few, q.1, e.0, e.1, e.2)
+    let e = part_ends c.requires c.width_of.ensures in
+    (c.requires.few, e.0, e.1, e.2)

@@ -7,10 +7,9 @@ use Rattle.tile_blocks.proofs.tile_places.panel_starts.Goals as goal
 
 pub scatter_vector-requires : goal.scatter_vector-requires
 scatter_vector-requires c =
-    let q = c.requires in
-    let e = part_ends q.0 c.width_of-filled.ensures in
+    let e = part_ends c.requires c.width_of-filled.ensures in
     let long : length c.args.starts.now ≡ 128 = c.scatter_vector-arg-1.given.0.1 in
-    (q.0.few, q.1, e.0, e.1, omega arith)
+    (c.requires.few, e.0, e.1, omega arith)
 
 pub returns : goal.returns
 returns c =

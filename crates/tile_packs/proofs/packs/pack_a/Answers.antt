@@ -1,30 +1,20 @@
 -- `pack_a` meets its contract: A's row block and the starts of its depth counts lie where the tile stands, so that each place that is read is inside and each word
 -- that is packed is the entry at the tile's counts.
 -- Assumes nothing.
-use native.Mathlib.Omega.{arith}
-use Rattle.groups.specs.Groups.{batch}
+use mathlib.Core.Path.{refl}
 use Rattle.tiles.specs.Grid.{cut_in}
 use Rattle.tile_blocks.specs.Side.{left}
-use Rattle.tile_blocks.proofs.TileParts.{batch_in, side_part, panel_part}
 use Rattle.tile_packs.proofs.SideBlocks.{side_packable, side_packed_lem}
 use Rattle.tile_packs.proofs.packs.pack_a.Goals as goal
 
-pub cut_block-rows-requires : goal.cut_block-rows-requires
-cut_block-rows-requires c = let q = c.requires in (side_part q.0 q.1 left, omega arith)
-
-pub at_batch-from-requires : goal.at_batch-from-requires
-at_batch-from-requires c = let q = c.requires in (q.0.few batch, omega arith, batch_in q.0 q.1)
-
-pub panel_starts-filled-requires : goal.panel_starts-filled-requires
-panel_starts-filled-requires c = let q = c.requires in (panel_part q.0 q.1, omega arith)
-
 pub pack-requires : goal.pack-requires
 pack-requires c =
-    side_packable c.args.p (cut_in c.args.g) c.args.at left c.cut_block-rows.ensures c.at_batch-from.ensures
-    c.panel_starts-filled.ensures.0 c.panel_starts-filled.ensures.1 c.requires.0.counted.fits c.requires.1 c.requires.2
+    let t = c.args.t in
+    let s = c.depth_starts-filled.ensures in
+    side_packable t.plan.now (cut_in t.grid.now) t.at left c.rows-block.ensures refl s.0 s.1 c.requires.0.grid.counted.fits c.requires.0.begins c.requires.1
 
 pub returns : goal.returns
 returns c =
-    let s = c.args in
-    side_packed_lem s.p (cut_in s.g) s.at left c.cut_block-rows.ensures c.at_batch-from.ensures
-    c.panel_starts-filled.ensures.0 c.panel_starts-filled.ensures.1 s.a.now s.work.now c.pack.ensures
+    let t = c.args.t in
+    let s = c.depth_starts-filled.ensures in
+    side_packed_lem t.plan.now (cut_in t.grid.now) t.at left c.rows-block.ensures refl s.0 s.1 c.args.a.now c.args.work.now c.pack.ensures

@@ -34,18 +34,19 @@ module _ (p : Plan) (G : Cut) (x : Tile) (held : Bool) (b work : List ℕ) where
   packed_anew : {r : List ℕ} → (held && ltb 0 x.row) ≡ false → r ≡ side_packed p G x right b work → r ≡ renewed p G x held b work
   packed_anew e q = rw e q
 
-pub returns-then-held-at : goal.returns-then-held-at
-returns-then-held-at c =
+pub returns-then-held-t : goal.returns-then-held-t
+returns-then-held-t c =
     let s = c.args in
-    left_there s.p (cut_in s.g) s.at s.held s.b.now s.work.now c.if-held-at.true refl
+    left_there s.t.plan.now (cut_in s.t.grid.now) s.t.at s.held s.b.now s.work.now c.if-held-t.true refl
 
 pub pack_b-requires : goal.pack_b-requires
 pack_b-requires c =
     let q = c.requires in
-    (q.0, q.1, record { reads = q.3.reads; room = part_room _ c.args.work.now q.3.room })
+    (q.0, record { reads = q.2.reads; room = part_room _ c.args.work.now q.2.room })
 
 pub returns : goal.returns
 returns c =
     let a = c.args in
-    packed_anew a.p (cut_in a.g) a.at a.held a.b.now a.work.now c.if-held-at.false
-    (in_part a.p (cut_in a.g) a.at a.held a.b.now a.work.now c.requires.2 c.pack_b.ensures)
+    let t = a.t in
+    packed_anew t.plan.now (cut_in t.grid.now) t.at a.held a.b.now a.work.now c.if-held-t.false
+    (in_part t.plan.now (cut_in t.grid.now) t.at a.held a.b.now a.work.now c.requires.1 c.pack_b.ensures)

@@ -1,7 +1,8 @@
 -- `run` meets its contract: where a question refuses, nothing was written; where all pass, the grid's cut is the contraction's, and the tiles
 -- that run leave what its setting says.
 -- Assumes nothing.
-use mathlib.Core.Path.{◌≡◌, sym, ap, ◌∙◌}
+use mathlib.Core.Path.{◌≡◌, refl, sym, ap, ◌∙◌}
+use mathlib.Core.Bool.{Bool}
 use mathlib.Core.List.{List, ◌++◌}
 use Prim.Native.Nat.{ℕ, ◌+◌, ◌-◌, ◌*◌, ◌≤◌, min}
 use native.Mathlib.Nat.{mul_comm}
@@ -9,9 +10,14 @@ use native.Mathlib.Omega.{arith}
 use lib.Dec.{eqb}
 use lib.ListN.{length}
 use borrow.Author.Tests.{leb-true}
+use Rattle.std.specs.Prelude.{Result, IsErrAnd}
+use Rattle.refusals.specs.declared.refusal.Refusal.{Refusal}
+use Rattle.refusals.specs.Numbers.{number}
+use Rattle.refusals.proofs.Numbers.{not_0, errs}
 use Rattle.words.proofs.Tabulate.{length_tabulate}
 use Rattle.contraction.specs.declared.contraction.Contraction.{Contraction}
-use Rattle.contraction.specs.Operands.{A, B, C, D, four, tensors}
+use Rattle.contraction.specs.Operands.{four, named, tensors}
+use Rattle.contraction.specs.declared.contraction.Operand.TheVariants.{A, B, C, D}
 use Rattle.meaning.specs.Meaning.{Slices, lengths_in}
 use Rattle.tensor_answers.specs.Asking.{refusal}
 use Rattle.questions.specs.Questions.{layout_questions}
@@ -28,7 +34,8 @@ use Rattle.tile_blocks.specs.ContractionInTiles.{cut_of, setting}
 use Rattle.tile_blocks.specs.Planned.{GridOf, Clear, read_in, plan_setting}
 use Rattle.tile_questions.specs.TileQuestions.{size_question, room_question, done_question}
 use Rattle.tiling.specs.Work.{packed_last, work_after}
-use Rattle.answers.specs.TileAnswer.{ran, tile_refused, tile_call_of}
+use Rattle.answers.specs.declared.tile_answer.Ran.{Ran}
+use Rattle.answers.specs.TileAnswer.{ran, tile_refused, tile_answer, tile_call_of}
 use Rattle.tiled.specs.TileCall.{ran_call, tile_call}
 use Rattle.accept.proofs.AcceptQuestions.{asked, accepted}
 use Rattle.accept.proofs.Accepted.{none_refused, grid_cut}
@@ -69,21 +76,21 @@ module _ (c : Contraction) (z : Sizes) (w : Slices) {n : ℕ} (e : n ≡ refusal
     t_below = rw o.0.counted.total room_and_count.1
 
     -- what `run_tiles` asks for a count of tiles, and what it leaves
-    module _ (budget count : ℕ) (m : count ≡ min budget (g.total - t)) where
+    module _ (budget count : ℕ) (m : count ≡ min budget (g.total - t)) (b : Bool) (is : b ≡ named c) where
       in_total : t + count ≤ total (cut_in g)
       in_total = omega (arith, m, t_below, o.0.counted.total)
 
-      run_asks : GridOf p g × (t + count ≤ total (cut_in g)) × Clear p (cut_in g) c.named (length (w A)) (length (w B)) (length (w C)) (length (w D))
+      run_asks : GridOf p g × (t + count ≤ total (cut_in g)) × Clear p (cut_in g) b (length (w A)) (length (w B)) (length (w C)) (length (w D))
           × (g.sizes.rows * g.sizes.depth + g.sizes.cols * g.sizes.depth ≤ length work)
       run_asks = (
         o.0,
         in_total,
-        rw cut (clear c z w (accepted c z w (none_refused c z w e y)).0 (accepted c z w (none_refused c z w e y)).1 p q),
+        rw (is, cut) (clear c z w (accepted c z w (none_refused c z w e y)).0 (accepted c z w (none_refused c z w e y)).1 p q),
         rw (mul_comm g.sizes.cols g.sizes.depth) room_and_count.0,
       )
 
       all_ran : {r : ℕ} {d' work' : List ℕ} → r ≡ t + length (tiles_from t count)
-          → d' ≡ walk (plan_setting p (cut_in g) c.named c.alpha c.beta (w A) (w B) (w C)) (tiles_from t count) (w D)
+          → d' ≡ walk (plan_setting p (cut_in g) b c.alpha c.beta (w A) (w B) (w C)) (tiles_from t count) (w D)
           → work' ≡ packed_last (cut_in g) (read_in p (w A) (w B)) (tiles_from t count) work
           → tile_call_of (ran r (eqb r g.total)) d' work' ≡ tile_call c z w work t budget
       unfolding ran_call
@@ -94,46 +101,54 @@ module _ (c : Contraction) (z : Sizes) (w : Slices) {n : ℕ} (e : n ≡ refusal
           let whole : g.total ≡ total (cut_of c z) = o.0.counted.total ∙ ap total cut in
           let done : r ≡ t + count = er ∙ ap (λ (i : ℕ). t + i) (tiles_counted t count) in
           let words : d' ≡ walk (setting c z w) (tiles_from t count) (w D) =
-          ed ∙ ap (λ (G : Cut). walk (plan_setting p G c.named c.alpha c.beta (w A) (w B) (w C)) (tiles_from t count) (w D)) cut ∙ walk_agrees c z w ok p q (tiles_from t count) below (w D) in
+          ed ∙ ap (λ (f : Bool). walk (plan_setting p (cut_in g) f c.alpha c.beta (w A) (w B) (w C)) (tiles_from t count) (w D)) is
+          ∙ ap (λ (G : Cut). walk (plan_setting p G (named c) c.alpha c.beta (w A) (w B) (w C)) (tiles_from t count) (w D)) cut ∙ walk_agrees c z w ok p q (tiles_from t count) below (w D) in
           let packs : work' ≡ work_after c z w (tiles_from t count) work =
           ew ∙ ap (λ (G : Cut). packed_last G (read_in p (w A) (w B)) (tiles_from t count) work) cut ∙ work_agrees c z w ok p q (tiles_from t count) below work in
           rw (done, words, packs, m, whole) (tile_ran c z w work t budget ten late x)
 
-pub returns-then-number-ne0 : goal.returns-then-number-ne0
-returns-then-number-ne0 c =
-    let x = c.args in
-    tile_early x.k x.z (four c.args.a.now c.args.b.now c.args.c.now c.args.d.now) x.work.now x.done x.budget
-    (asked x.k x.z (four c.args.a.now c.args.b.now c.args.c.now c.args.d.now) c.of-x.ensures.number) c.if-number-ne0.true
+-- what a `?` hands on is answered with the count as given
+handed : (t : ℕ) (d work : List ℕ) (e : Refusal) (r : Result Ran Refusal) → IsErrAnd r (λ y. y ≡ e)
+    → tile_call_of (tile_answer t r) d work ≡ tile_call_of (tile_refused (number e) t) d work
+handed t d work e r h = ap (λ (x : Result Ran Refusal). tile_call_of (tile_answer t x) d work) (errs r h)
 
-pub returns-then-number-ne0-2 : goal.returns-then-number-ne0-2
-returns-then-number-ne0-2 c =
-    let r = c.of-x in
+pub returns-in_err-x : goal.returns-in_err-x
+returns-in_err-x c =
     let x = c.args in
-    late_no x.k x.z (four c.args.a.now c.args.b.now c.args.c.now c.args.d.now) r.ensures.number c.if-number-ne0.false
-    r.result.plan (r.ensures.plan c.if-number-ne0.false) r.result.grid (r.ensures.grid c.if-number-ne0.false) x.work.now x.done
-    c.tile_refusal-number.ensures x.budget c.if-number-ne0-2.true
+    let w = four c.args.a.now c.args.b.now c.args.c.now c.args.d.now in
+    handed x.done x.d.now x.work.now c.in_err-x.field-0.0 c.from_residual.result c.from_residual.ensures.1
+    ∙ tile_early x.k x.z w x.work.now x.done x.budget (asked x.k x.z w c.in_err-x.ensures.number) (not_0 c.in_err-x.field-0.0)
+
+pub returns-in_err-tile_refusal : goal.returns-in_err-tile_refusal
+returns-in_err-tile_refusal c =
+    let r = c.in_ok-x in
+    let x = c.args in
+    handed x.done x.d.now x.work.now c.in_err-tile_refusal.field-0.0 c.from_residual-in_err-tile_refusal.result c.from_residual-in_err-tile_refusal.ensures.1
+    ∙ late_no x.k x.z (four c.args.a.now c.args.b.now c.args.c.now c.args.d.now) r.ensures.number refl
+    r.x.plan r.ensures.planned.plan r.x.grid r.ensures.planned.grid x.work.now x.done
+    c.in_err-tile_refusal.ensures x.budget (not_0 c.in_err-tile_refusal.field-0.0)
 
 pub overflow_sub-left : goal.overflow_sub-left
 overflow_sub-left c =
-    let r = c.of-x in
+    let r = c.in_ok-x in
     let x = c.args in
-    t_below x.k x.z (four c.args.a.now c.args.b.now c.args.c.now c.args.d.now) r.ensures.number c.if-number-ne0.false
-    r.result.plan (r.ensures.plan c.if-number-ne0.false) r.result.grid (r.ensures.grid c.if-number-ne0.false) x.work.now x.done
-    c.tile_refusal-number.ensures c.if-number-ne0-2.false
+    t_below x.k x.z (four c.args.a.now c.args.b.now c.args.c.now c.args.d.now) r.ensures.number refl
+    r.x.plan r.ensures.planned.plan r.x.grid r.ensures.planned.grid x.work.now x.done
+    c.in_ok-tile_refusal.ensures refl
 
 pub run_tiles-t-requires : goal.run_tiles-t-requires
 run_tiles-t-requires c =
-    let r = c.of-x in
+    let r = c.in_ok-x in
     let x = c.args in
-    run_asks x.k x.z (four c.args.a.now c.args.b.now c.args.c.now c.args.d.now) r.ensures.number c.if-number-ne0.false
-    r.result.plan (r.ensures.plan c.if-number-ne0.false) r.result.grid (r.ensures.grid c.if-number-ne0.false) x.work.now x.done
-    c.tile_refusal-number.ensures c.if-number-ne0-2.false x.budget _ c.smaller-count.ensures
+    run_asks x.k x.z (four c.args.a.now c.args.b.now c.args.c.now c.args.d.now) r.ensures.number refl
+    r.x.plan r.ensures.planned.plan r.x.grid r.ensures.planned.grid x.work.now x.done
+    c.in_ok-tile_refusal.ensures refl x.budget _ c.min-count.ensures _ c.is_some-named.ensures
 
 pub returns : goal.returns
 returns c =
-    let r = c.of-x in
+    let r = c.in_ok-x in
     let x = c.args in
-    all_ran x.k x.z (four c.args.a.now c.args.b.now c.args.c.now c.args.d.now) r.ensures.number c.if-number-ne0.false
-    r.result.plan (r.ensures.plan c.if-number-ne0.false) r.result.grid (r.ensures.grid c.if-number-ne0.false) x.work.now x.done
-    c.tile_refusal-number.ensures c.if-number-ne0-2.false x.budget _ c.smaller-count.ensures
+    all_ran x.k x.z (four c.args.a.now c.args.b.now c.args.c.now c.args.d.now) r.ensures.number refl
+    r.x.plan r.ensures.planned.plan r.x.grid r.ensures.planned.grid x.work.now x.done
+    c.in_ok-tile_refusal.ensures refl x.budget _ c.min-count.ensures _ c.is_some-named.ensures
     c.run_tiles-t.ensures.0 c.run_tiles-t.ensures.1 c.run_tiles-t.ensures.2

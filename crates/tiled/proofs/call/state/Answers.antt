@@ -1,11 +1,12 @@
 -- `state` meets its contract: where a question refuses, its number is the call's; where all pass, the grid's cut is the contraction's, and so is
 -- the state.
 -- Assumes nothing.
-use mathlib.Core.Path.{◌≡◌, sym, ap, ◌∙◌}
+use mathlib.Core.Path.{◌≡◌, refl, sym, ap, ◌∙◌}
 use mathlib.Core.Bool.{◌&&◌}
 use mathlib.Core.List.{◌++◌}
 use Prim.Native.Nat.{ℕ, ◌<◌}
 use lib.Dec.{ltb, ltb→lt}
+use Rattle.refusals.proofs.Numbers.{not_0, errs}
 use Rattle.words.proofs.Sums.{and_split}
 use Rattle.contraction.specs.declared.contraction.Contraction.{Contraction}
 use Rattle.contraction.specs.Operands.{four, tensors}
@@ -23,7 +24,7 @@ use Rattle.tiles.specs.Progress.{State, state_at}
 use Rattle.tile_blocks.specs.ContractionInTiles.{cut_of}
 use Rattle.tile_blocks.specs.Planned.{GridOf}
 use Rattle.tile_questions.specs.TileQuestions.{size_question, done_question, index_question}
-use Rattle.answers.specs.StateAnswer.{is, state_refused}
+use Rattle.answers.specs.StateAnswer.{is, state_refused, state_answer}
 use Rattle.tiled.specs.TileCall.{state_call}
 use Rattle.accept.proofs.AcceptQuestions.{asked}
 use Rattle.accept.proofs.Accepted.{none_refused, grid_cut}
@@ -56,34 +57,35 @@ module _ (c : Contraction) (z : Sizes) (w : Slices) {n : ℕ} (e : n ≡ refusal
   found : {s : State} → k ≡ 0 → s ≡ state_at (cut_in g) t h i j → is s ≡ state_call c z w t h i j
   found x f = ap is (f ∙ ap (λ (G : Cut). state_at G t h i j) cut) ∙ state_found c z w t h i j (none_refused c z w e y) late x
 
-pub returns-then-number-ne0 : goal.returns-then-number-ne0
-returns-then-number-ne0 c =
+pub returns-in_err-x : goal.returns-in_err-x
+returns-in_err-x c =
     let x = c.args in
-    state_early x.k x.z (four c.args.a.now c.args.b.now c.args.c.now c.args.d.now) x.done x.h x.i x.j
-    (asked x.k x.z (four c.args.a.now c.args.b.now c.args.c.now c.args.d.now) c.of-x.ensures.number) c.if-number-ne0.true
+    let w = four c.args.a.now c.args.b.now c.args.c.now c.args.d.now in
+    ap state_answer (errs c.from_residual.result c.from_residual.ensures.1)
+    ∙ state_early x.k x.z w x.done x.h x.i x.j (asked x.k x.z w c.in_err-x.ensures.number) (not_0 c.in_err-x.field-0.0)
 
-pub returns-then-number-ne0-2 : goal.returns-then-number-ne0-2
-returns-then-number-ne0-2 c =
-    let r = c.of-x in
+pub returns-in_err-state_refusal : goal.returns-in_err-state_refusal
+returns-in_err-state_refusal c =
+    let r = c.in_ok-x in
     let x = c.args in
-    late_no x.k x.z (four c.args.a.now c.args.b.now c.args.c.now c.args.d.now) r.ensures.number c.if-number-ne0.false
-    r.result.plan (r.ensures.plan c.if-number-ne0.false) r.result.grid (r.ensures.grid c.if-number-ne0.false) x.done x.h x.i x.j
-    c.state_refusal-number.ensures c.if-number-ne0-2.true
+    ap state_answer (errs c.from_residual-in_err-state_refusal.result c.from_residual-in_err-state_refusal.ensures.1)
+    ∙ late_no x.k x.z (four c.args.a.now c.args.b.now c.args.c.now c.args.d.now) r.ensures.number refl
+    r.x.plan r.ensures.planned.plan r.x.grid r.ensures.planned.grid x.done x.h x.i x.j
+    c.in_err-state_refusal.ensures (not_0 c.in_err-state_refusal.field-0.0)
 
 pub state-requires : goal.state-requires
 state-requires c =
-    let r = c.of-x in
+    let r = c.in_ok-x in
     let x = c.args in
-    let inside = index_inside x.k x.z (four c.args.a.now c.args.b.now c.args.c.now c.args.d.now) r.ensures.number c.if-number-ne0.false
-    r.result.plan (r.ensures.plan c.if-number-ne0.false) r.result.grid (r.ensures.grid c.if-number-ne0.false) x.done x.h x.i x.j
-    c.state_refusal-number.ensures c.if-number-ne0-2.false in
-    ((r.ensures.grid c.if-number-ne0.false).0.counted, inside.0, inside.1, inside.2)
+    let inside = index_inside x.k x.z (four c.args.a.now c.args.b.now c.args.c.now c.args.d.now) r.ensures.number refl
+    r.x.plan r.ensures.planned.plan r.x.grid r.ensures.planned.grid x.done x.h x.i x.j
+    c.in_ok-state_refusal.ensures refl in
+    (r.ensures.planned.grid.0.counted, inside.0, inside.1, inside.2)
 
 pub returns : goal.returns
 returns c =
-    let r = c.of-x in
+    let r = c.in_ok-x in
     let x = c.args in
-    c.answer_of.ensures
-    ∙ found x.k x.z (four c.args.a.now c.args.b.now c.args.c.now c.args.d.now) r.ensures.number c.if-number-ne0.false
-    r.result.plan (r.ensures.plan c.if-number-ne0.false) r.result.grid (r.ensures.grid c.if-number-ne0.false) x.done x.h x.i x.j
-    c.state_refusal-number.ensures c.if-number-ne0-2.false c.state.ensures
+    found x.k x.z (four c.args.a.now c.args.b.now c.args.c.now c.args.d.now) r.ensures.number refl
+    r.x.plan r.ensures.planned.plan r.x.grid r.ensures.planned.grid x.done x.h x.i x.j
+    c.in_ok-state_refusal.ensures refl c.state.ensures

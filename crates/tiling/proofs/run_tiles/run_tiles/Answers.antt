@@ -1,6 +1,6 @@
 -- `run_tiles` meets its contract. The invariant: from `done` to t each tile was run, so D's words are those that they leave, one after the other; the work slice is
 -- as it was at first, after a tile that was packed it holds that one's blocks, and the words behind them are as they were. A turn runs tile t, and packs it where it
--- is the last; the measure is how many are left. Zeros past the edges then make these the packed blocks of the last tile.
+-- is the last. Zeros past the edges then make these the packed blocks of the last tile.
 -- Assumes nothing.
 use mathlib.Core.Path.{◌≡◌, sym, ◌∙◌, subst}
 use Prim.Native.Nat.{◌+◌, ◌-◌}
@@ -19,7 +19,7 @@ pub overflow_add-end : goal.overflow_add-end
 overflow_add-end c = let q = c.requires in omega (arith, sum_of_small q.0.counted.fits)
 
 pub loop-t-init : goal.loop-t-init
-loop-t-init c = (omega arith, none _ _ _ _ _ _ _ _ _ _ _ _)
+loop-t-init c = none _ _ _ _ _ _ _ _ _ _ _ _
 
 pub overflow_add-last : goal.overflow_add-last
 overflow_add-last c = let q = c.requires in omega (arith, sum_of_small q.0.counted.fits)
@@ -27,16 +27,13 @@ overflow_add-last c = let q = c.requires in omega (arith, sum_of_small q.0.count
 pub run_tile-held-requires : goal.run_tile-held-requires
 run_tile-held-requires c =
     let q = c.requires in
-    let r = c.loop-t.invariant.1 in
+    let r = c.loop-t.invariant in
     (q.0, omega arith, subst (Clear _ _ _ _ _ _) (sym (same_d _ _ _ _ _ _ _ _ _ _ _ _ r)) q.2, omega (arith, r.size), λ e. r.blocks e right)
-
-pub overflow_add-t : goal.overflow_add-t
-overflow_add-t c = let q = c.requires in omega (arith, sum_of_small q.0.counted.fits)
 
 pub loop-t-preserved : goal.loop-t-preserved
 loop-t-preserved c =
     let r = c.run_tile-held in
-    (omega arith, next _ _ _ _ _ _ _ _ _ _ _ _ c.loop-t.invariant.1 r.ensures.0 r.auto.work r.ensures.1)
+    next _ _ _ _ _ _ _ _ _ _ _ _ c.loop-t.invariant r.ensures.0 r.auto.work r.ensures.1
 
 pub tile-requires : goal.tile-requires
 tile-requires c = let q = c.requires in (q.0.counted, omega (arith, q.1))
@@ -44,13 +41,13 @@ tile-requires c = let q = c.requires in (q.0.counted, omega (arith, q.1))
 pub pad_blocks-requires : goal.pad_blocks-requires
 pad_blocks-requires c =
     let q = c.requires in
-    (q.0.counted.fits, tile_begins q.0 (omega (arith, q.1)) c.tile.ensures, omega (arith, q.3, c.loop-t.invariant.1.size))
+    (q.0.counted.fits, tile_begins q.0 (omega (arith, q.1)) c.tile.ensures, omega (arith, q.3, c.loop-t.invariant.size))
 
 pub shape_of-d-then-count-gt0 : goal.shape_of-d-then-count-gt0
-shape_of-d-then-count-gt0 c = same_d _ _ _ _ _ _ _ _ _ _ _ _ c.loop-t.invariant.1
+shape_of-d-then-count-gt0 c = same_d _ _ _ _ _ _ _ _ _ _ _ _ c.loop-t.invariant
 
 pub shape_of-work-then-count-gt0 : goal.shape_of-work-then-count-gt0
-shape_of-work-then-count-gt0 c = c.pad_blocks.auto.work ∙ c.loop-t.invariant.1.size
+shape_of-work-then-count-gt0 c = c.pad_blocks.auto.work ∙ c.loop-t.invariant.size
 
 pub returns-then-count-gt0 : goal.returns-then-count-gt0
 unfolding tiles_from
@@ -60,13 +57,13 @@ returns-then-count-gt0 c =
     let e : l.t ≡ s.done + s.count = omega arith in
     let k : l.t - s.done ≡ s.count = omega (arith, e) in
     let x : TileOf (cut_in s.g) (l.t - 1) c.tile.result = rw e c.tile.ensures in
-    (omega (arith, e, length_tabulate s.count (λ k. s.done + k)), rw k at l.invariant.1.words, ended _ _ _ _ _ _ _ _ _ _ _ _ l.invariant.1 e e (omega arith) x c.pad_blocks.ensures)
+    (omega (arith, e, length_tabulate s.count (λ k. s.done + k)), rw k at l.invariant.words, ended _ _ _ _ _ _ _ _ _ _ _ _ l.invariant e e (omega arith) x c.pad_blocks.ensures)
 
 pub shape_of-d-else-count-gt0 : goal.shape_of-d-else-count-gt0
-shape_of-d-else-count-gt0 c = same_d _ _ _ _ _ _ _ _ _ _ _ _ c.loop-t.invariant.1
+shape_of-d-else-count-gt0 c = same_d _ _ _ _ _ _ _ _ _ _ _ _ c.loop-t.invariant
 
 pub shape_of-work-else-count-gt0 : goal.shape_of-work-else-count-gt0
-shape_of-work-else-count-gt0 c = c.loop-t.invariant.1.size
+shape_of-work-else-count-gt0 c = c.loop-t.invariant.size
 
 pub returns-else-count-gt0 : goal.returns-else-count-gt0
 unfolding tiles_from
@@ -75,4 +72,4 @@ returns-else-count-gt0 c =
     let l = c.loop-t in
     let e : l.t ≡ s.done + s.count = omega arith in
     let k : l.t - s.done ≡ s.count = omega (arith, e) in
-    (omega (arith, e, length_tabulate s.count (λ k. s.done + k)), rw k at l.invariant.1.words, never _ _ _ _ _ _ _ _ _ _ _ _ l.invariant.1 e (omega arith))
+    (omega (arith, e, length_tabulate s.count (λ k. s.done + k)), rw k at l.invariant.words, never _ _ _ _ _ _ _ _ _ _ _ _ l.invariant e (omega arith))

@@ -1,28 +1,17 @@
--- `valid_of` meets its contract. The loop goes from the last axis to the first, as `every` does; its invariant: the answers so far
--- are those of the axes from i on. The measure is i.
+-- `valid_of` meets its contract: each of the three tests is made at every axis.
 -- Assumes nothing.
-use mathlib.Core.Path.{◌≡◌, refl}
-use native.Mathlib.Omega.{arith}
-use Rattle.words.proofs.Tabulate.{from, from_end, from_before}
-use Rattle.layout.specs.Layout.{no_axis}
-use Rattle.layout.specs.Listed.{listed}
+use Rattle.std.proofs.Common.{◌∙◌, rules}
+use borrow.Author.Tests.{tests}
+use Rattle.words.proofs.Closures.{slice_all}
 use Rattle.validity.specs.TensorQuestions.{letters_valid, extents_valid, strides_valid}
 use Rattle.validity.proofs.tensor_questions.valid_of.Goals as goal
 
-pub loop-i-init : goal.loop-i-init
-unfolding letters_valid extents_valid strides_valid
-loop-i-init c =
-    (omega arith, rw (from_end no_axis c.args.x.items c.args.x.count) (record { letters = refl; extents = refl; strides = refl }))
-
-pub loop-i-preserved : goal.loop-i-preserved
-loop-i-preserved c =
-    let l = c.loop-i in
-    let x = c.args.x in
-    (omega arith, rw (from_before no_axis x.items x.count l.i (omega arith) (omega arith)) (c.with-valid.ensures (from no_axis x.items x.count l.i) l.invariant.1))
-
 pub returns : goal.returns
-unfolding listed
+unfolding letters_valid extents_valid strides_valid
 returns c =
-    let l = c.loop-i in
-    let z : l.i ≡ 0 = omega arith in
-    rw z at l.invariant.1
+    let axes = c.as_slice-axes.ensures in
+    record {
+      letters = slice_all _ c.all.ensures.ran (c.iter.ensures.rest ∙ axes) (λ x b q k. search (rules, tests));
+      extents = slice_all _ c.all-2.ensures.ran (c.iter-2.ensures.rest ∙ axes) (λ x b q k. search (rules, tests));
+      strides = slice_all _ c.all-3.ensures.ran (c.iter-3.ensures.rest ∙ axes) (λ x b q k. search (rules, tests));
+    }

@@ -1,34 +1,30 @@
 -- `Accept::of` meets its contract: question 10 is asked where 1 to 9 refuse nothing, and where none of the ten does, the labels can be folded and the
 -- grid's counts are in their limits.
 -- Assumes nothing.
-use mathlib.Core.Path.{◌≡◌, sym, ◌∙◌}
-use mathlib.Core.Bool.{true, cond}
-use mathlib.Core.List.{List, ◌++◌}
+use mathlib.Core.Path.{◌≡◌, sym, subst}
+use mathlib.Core.Bool.{true}
+use mathlib.Core.List.{◌++◌}
 use Prim.Native.Nat.{ℕ}
-use native.Mathlib.Decide.{ℕ_discrete}
-use borrow.Author.Tests.{eq-eqb, ne_eqb}
-use lib.Dec.{eqb}
+use Rattle.std.proofs.Common.{rules}
+use Rattle.std.specs.Prelude.{Result, IsErrAnd}
+use Rattle.refusals.specs.declared.refusal.Refusal.{Refusal}
+use Rattle.refusals.specs.Numbers.{number}
+use Rattle.refusals.proofs.Numbers.{errs}
 use Rattle.contraction.specs.declared.contraction.Contraction.{Contraction}
-use Rattle.contraction.specs.Operands.{Operand, tensors, lengths}
-use Rattle.tensor_answers.specs.Asking.{Question, refusal}
+use Rattle.contraction.specs.Operands.{tensors, lengths}
+use Rattle.contraction.specs.declared.contraction.Operand.{Operand}
+use Rattle.tensor_answers.specs.Asking.{refusal}
 use Rattle.tensor_answers.specs.OwnQuestions.{tensor_questions}
 use Rattle.questions.specs.Questions.{label_questions, entry_questions, layout_questions}
-use Rattle.tensor_answers.proofs.Refusal.{Numbered, passed, refusal_next, refusal_first, refusal_both}
+use Rattle.tensor_answers.proofs.Refusal.{Numbered, passed, refusal_both, refused_by, passed_then}
 use Rattle.questions.proofs.Ready.{AllPassed, accepted_parts}
 use Rattle.plan.proofs.GroupsFoldable.{all_foldable}
 use Rattle.tiles.specs.declared.grid.Sizes.{Sizes}
 use Rattle.tile_questions.specs.TileQuestions.{sizes_fit, size_question}
+use Rattle.accept.specs.declared.accept.Accept.{Accept}
+use Rattle.accept.specs.Accept.{AcceptOf}
 use Rattle.accept.proofs.Reaches.{plan_fits}
-use Rattle.accept.proofs.accept.Accept.of.Goals.{After-size_refusal-number}
 use Rattle.accept.proofs.accept.Accept.of.Goals as goal
-
--- questions behind others: m is the number that the others gave
-behind : (xs ys : List Question) → Numbered xs → {m : ℕ} → m ≡ refusal xs → cond (eqb m 0) (refusal ys) m ≡ refusal (xs ++ ys)
-behind xs ys k {m} e = go (ℕ_discrete m 0)
-  where
-    go : Dec (m ≡ 0) → cond (eqb m 0) (refusal ys) m ≡ refusal (xs ++ ys)
-    go (yes z) = rw (eq-eqb m 0 z) (sym (refusal_next xs ys k (sym e ∙ z)))
-    go (no z) = rw (ne_eqb m 0 z) (e ∙ sym (refusal_first xs ys (λ y. z (e ∙ y))))
 
 module _ (c : Contraction) (n : Operand → ℕ) where
   numbered : Numbered (layout_questions (tensors c) n)
@@ -47,33 +43,53 @@ module _ (c : Contraction) (n : Operand → ℕ) where
     unfolding size_question
     sizes_pass = (passed (size_question z) tt (refusal_both (layout_questions (tensors c) n) (size_question z) numbered e).1).0
 
--- the number is that of questions 1 to 10
-ten : (c : After-size_refusal-number)
-    → let a = c.args in
-    c.size_refusal-number.result ≡ refusal (layout_questions (tensors a.c) (lengths a.c a.n) ++ size_question a.z)
-ten c =
-    let a = c.args in
-    c.size_refusal-number.ensures
-    ∙ behind (layout_questions (tensors a.c) (lengths a.c a.n)) (size_question a.z) (numbered a.c (lengths a.c a.n)) c.first_no-x.ensures.number
+  -- one of the first nine refuses
+  nine_refuses : (z : Sizes) (e : Refusal) → number e ≡ refusal (layout_questions (tensors c) n) → number e ≡ refusal (layout_questions (tensors c) n ++ size_question z)
+  nine_refuses z e h = refused_by (layout_questions (tensors c) n) (size_question z) e h
 
-pub returns-then-number-ne0 : goal.returns-then-number-ne0
-returns-then-number-ne0 c =
-    record { number = c.no.ensures ∙ ten c.before.before; plan = λ z. absurd (c.if-number-ne0.true (sym c.no.ensures ∙ z)); grid = λ z. absurd (c.if-number-ne0.true (sym c.no.ensures ∙ z)) }
+  -- none does, and the tenth is asked
+  tenth : (z : Sizes) → 0 ≡ refusal (layout_questions (tensors c) n) → {m : ℕ} → m ≡ refusal (size_question z) → m ≡ refusal (layout_questions (tensors c) n ++ size_question z)
+  tenth z h e = passed_then (layout_questions (tensors c) n) (size_question z) numbered h e
+
+  -- refused by what a `?` handed on
+  refused : (z : Sizes) (e : Refusal) (r : Result Accept Refusal) → IsErrAnd r (λ y. y ≡ e) → number e ≡ refusal (layout_questions (tensors c) n ++ size_question z)
+      → AcceptOf c z n r
+  refused z e r h m = subst (AcceptOf c z n) (sym (errs r h)) (record { number = m; planned = tt })
+
+pub returns-in_err-lists : goal.returns-in_err-lists
+returns-in_err-lists c =
+    let a = c.args in
+    let n = lengths a.c a.n in
+    let e = c.in_err-lists.field-0.0 in
+    refused a.c n a.z e c.from_residual.result c.from_residual.ensures.1 (nine_refuses a.c n a.z e (search rules))
+
+pub returns-in_err-size_refusal : goal.returns-in_err-size_refusal
+returns-in_err-size_refusal c =
+    let a = c.args in
+    let n = lengths a.c a.n in
+    let e = c.in_err-size_refusal.field-0.0 in
+    refused a.c n a.z e c.from_residual-in_err-size_refusal.result c.from_residual-in_err-size_refusal.ensures.1
+    (tenth a.c n a.z c.in_ok-lists.ensures.number c.in_err-size_refusal.ensures)
 
 pub plan_of-plan-requires : goal.plan_of-plan-requires
 plan_of-plan-requires c =
     let a = c.args in
-    let z = sym (ten c.before.before) ∙ c.if-number-ne0.false in (
-      c.first_no-x.ensures.lists (c.first_no-x.ensures.number ∙ nine a.c (lengths a.c a.n) a.z z),
-      all_foldable (tensors a.c) (lengths a.c a.n) (all_passed a.c (lengths a.c a.n) a.z z),
-    )
+    let n = lengths a.c a.n in
+    let z = sym (tenth a.c n a.z c.in_ok-lists.ensures.number c.in_ok-size_refusal.ensures) in
+    (c.in_ok-lists.ensures.lists, all_foldable (tensors a.c) n (all_passed a.c n a.z z))
 
 pub grid_of-grid-requires : goal.grid_of-grid-requires
 grid_of-grid-requires c =
     let a = c.args in
-    let z = sym (ten c.before.before.before) ∙ c.if-number-ne0.false in
-    plan_fits a.c (lengths a.c a.n) (all_passed a.c (lengths a.c a.n) a.z z) c.plan_of-plan.result c.plan_of-plan.ensures a.z
-    (sizes_pass a.c (lengths a.c a.n) a.z z)
+    let n = lengths a.c a.n in
+    let z = sym (tenth a.c n a.z c.in_ok-lists.ensures.number c.in_ok-size_refusal.ensures) in
+    plan_fits a.c n (all_passed a.c n a.z z) c.plan_of-plan.result c.plan_of-plan.ensures a.z (sizes_pass a.c n a.z z)
 
 pub returns : goal.returns
-returns c = record { number = ten c.before.before.before.before; plan = λ z. c.plan_of-plan.ensures; grid = λ z. c.grid_of-grid.ensures }
+returns c =
+    let a = c.args in
+    let n = lengths a.c a.n in
+    record {
+      number = tenth a.c n a.z c.in_ok-lists.ensures.number c.in_ok-size_refusal.ensures;
+      planned = record { plan = c.plan_of-plan.ensures; grid = c.grid_of-grid.ensures };
+    }

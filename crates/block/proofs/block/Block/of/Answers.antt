@@ -6,7 +6,7 @@ use Rattle.block.proofs.block.Block.of.Goals as goal
 
 pub returns : goal.returns
 returns c =
-    let n = c.clipped-n.ensures in
+    let n = c.min-n.ensures in
     record {
       holds = refl;
       used = n;

@@ -1,37 +1,25 @@
 -- `Operands::extent` meets its contract: D's axes are asked first, then A's, B's and C's.
 -- Assumes nothing.
-use mathlib.Core.Path.{◌≡◌, refl, ◌∙◌}
-use mathlib.Core.Bool.{Bool, true, false, cond}
+use mathlib.Core.Path.{◌≡◌, ◌∙◌}
 use mathlib.Core.List.{List, [], ◌++◌, append_assoc}
 use Prim.Native.Nat.{ℕ}
+use Rattle.std.specs.Prelude.{Option, None, Some, unwrap_or, MatchOption}
 use Rattle.layout.specs.declared.layout.Axis.{Axis}
 use Rattle.layout.specs.Listed.{listed}
 use Rattle.labels.specs.Labels.{extent_of}
-use Rattle.contraction.specs.declared.operands.Operands.{Operands}
-use Rattle.contraction.specs.Operands.{A, B, D, together}
-use Rattle.contraction.specs.TensorAxes.{shape_of, Gathered}
+use Rattle.labels.specs.declared.letter_sets.Labelled.{Labelled}
+use Rattle.contraction.specs.Operands.{together}
+use Rattle.contraction.specs.declared.contraction.Operand.TheVariants.{A, B, D}
 use Rattle.contraction.proofs.Again.{extent_again}
 use Rattle.contraction.proofs.operands.Operands.extent.Goals as goal
 
 -- where C is not named, D stands behind the others once more
-behind : (x : Operands) (n r : ℕ) → Gathered x
-    → ((ys : List Axis) → cond x.named (extent_of n (listed x.c.axes)) 1 ≡ extent_of n ys
-    → r ≡ extent_of n (listed x.d.axes ++ (listed x.a.axes ++ (listed x.b.axes ++ ys))))
-    → r ≡ extent_of n (together (shape_of x))
-unfolding together
-behind x n r g f = go x.named refl f
-  where
-    d : List Axis
-    d = listed x.d.axes
-
-    go : (b : Bool) → x.named ≡ b
-        → ((ys : List Axis) → cond b (extent_of n (listed x.c.axes)) 1 ≡ extent_of n ys → r ≡ extent_of n (d ++ (listed x.a.axes ++ (listed x.b.axes ++ ys))))
-        → r ≡ extent_of n (d ++ (listed x.a.axes ++ (listed x.b.axes ++ listed x.c.axes)))
-    go true e f = f (listed x.c.axes) refl
-    go false e f =
-        f [] refl
-        ∙ rw (g.stands e, ← append_assoc (listed x.a.axes) (listed x.b.axes) [], ← append_assoc (listed x.a.axes) (listed x.b.axes) d)
-        (extent_again n d (listed x.a.axes ++ listed x.b.axes))
+behind : (o : Option Labelled) (d : Labelled) (a b : List Axis) (n m r : ℕ) → MatchOption o (m ≡ 1) (λ l. m ≡ extent_of n (listed l.axes))
+    → ((ys : List Axis) → m ≡ extent_of n ys → r ≡ extent_of n (listed d.axes ++ (a ++ (b ++ ys))))
+    → r ≡ extent_of n (listed d.axes ++ (a ++ (b ++ listed (unwrap_or o d).axes)))
+behind (Some l) d a b n m r e f = f (listed l.axes) e
+behind None d a b n m r e f =
+    f [] e ∙ rw (← append_assoc a b [], ← append_assoc a b (listed d.axes)) (extent_again n (listed d.axes) (a ++ b))
 
 pub extent_in_c-requires : goal.extent_in_c-requires
 extent_in_c-requires c = c.requires
@@ -46,6 +34,8 @@ pub extent_or-requires-3 : goal.extent_or-requires-3
 extent_or-requires-3 c = (c.requires.each D).checked.few
 
 pub returns : goal.returns
+unfolding together
 returns c =
-    behind c.args.self c.args.c c.extent_or-3.result c.requires
-    (λ ys e. c.extent_or-3.ensures _ (c.extent_or-2.ensures _ (c.extent_or.ensures ys (c.extent_in_c.ensures ∙ e))))
+    let x = c.args.self in
+    behind x.c x.d (listed x.a.axes) (listed x.b.axes) c.args.c c.extent_in_c.result c.extent_or-3.result c.extent_in_c.ensures
+    (λ ys e. c.extent_or-3.ensures _ (c.extent_or-2.ensures _ (c.extent_or.ensures ys e)))

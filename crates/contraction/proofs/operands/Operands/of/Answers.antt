@@ -1,25 +1,53 @@
 -- `Operands::of` meets its contract: A's letters behind D's, then B's, then C's.
 -- Assumes nothing.
-use mathlib.Core.Path.{refl, subst, ◌∙◌}
+use mathlib.Core.Path.{◌≡◌, refl, subst, ◌∙◌}
 use mathlib.Core.List.{List, ◌++◌, append_assoc}
+use Rattle.std.specs.Prelude.{Option, None, Some, unwrap_or, IfSome, MatchOption}
 use native.Mathlib.Omega.{arith}
 use Rattle.layout.specs.declared.layout.Axis.{Axis}
 use Rattle.layout.specs.Listed.{listed}
 use Rattle.labels.specs.Labels.{labels}
+use Rattle.validity.specs.Checked.{Checked}
+use Rattle.labels.specs.declared.letter_sets.Labelled.{Labelled}
+use Rattle.labels.specs.declared.letter_sets.Letters.{Letters}
 use Rattle.labels.specs.LetterSets.{Spells}
+use Rattle.labels.specs.Lettered.{Lettered}
 use Rattle.labels.proofs.Spelling.{spells_itself}
-use Rattle.contraction.specs.Operands.{A, B, C, D, together}
+use Rattle.contraction.specs.Operands.{together}
+use Rattle.contraction.specs.declared.contraction.Operand.TheVariants.{A, B, C, D}
 use Rattle.contraction.proofs.Again.{labels_again}
 use Rattle.contraction.proofs.operands.Operands.of.Goals as goal
 
+checked_c : (o : Option Labelled) (d : Labelled) → Lettered (unwrap_or o d) → IfSome o (λ l. Checked l.axes)
+checked_c (Some l) d h = h.checked
+checked_c None d h = tt
+
+-- where C is not named, D stands behind the others once more
+behind : (o : Option Labelled) (d : Labelled) (a b : List Axis) (s r : Letters) → Spells s (labels ((listed d.axes ++ a) ++ b))
+    → MatchOption o (r ≡ s) (λ l. (xs : List Axis) → Spells s (labels xs) → Spells r (labels (xs ++ listed l.axes)))
+    → Spells r (labels (listed d.axes ++ (a ++ (b ++ listed (unwrap_or o d).axes))))
+behind o d a b s r h f =
+    subst (λ (xs : List Axis). Spells r (labels xs)) (append_assoc (z ++ a) b (y o) ∙ append_assoc z a (b ++ y o)) (go o f)
+  where
+    z : List Axis
+    z = listed d.axes
+
+    y : Option Labelled → List Axis
+    y o = listed (unwrap_or o d).axes
+
+    go : (o : Option Labelled) → MatchOption o (r ≡ s) (λ l. (xs : List Axis) → Spells s (labels xs) → Spells r (labels (xs ++ listed l.axes)))
+        → Spells r (labels (((z ++ a) ++ b) ++ y o))
+    go (Some l) f = f ((z ++ a) ++ b) h
+    go None e = rw (e, append_assoc z a b, labels_again z (a ++ b), ← append_assoc z a b) h
+
 pub with_axes-requires : goal.with_axes-requires
 with_axes-requires c =
-    let d = c.requires.0.each D in
-    (spells_itself c.args.d.letters _ d.spells, (c.requires.0.each A).checked, omega (arith, d.few))
+    let d = c.requires.each D in
+    (spells_itself c.args.d.letters _ d.spells, (c.requires.each A).checked, omega (arith, d.few))
 
 pub with_axes-letters-requires : goal.with_axes-letters-requires
 with_axes-letters-requires c =
-    let p = c.requires.0 in
+    let p = c.requires in
     let d = p.each D in (
       spells_itself c.with_axes.result _ (c.with_axes.ensures.0 _ d.spells),
       (p.each B).checked,
@@ -28,31 +56,24 @@ with_axes-letters-requires c =
 
 pub letters_with_c-requires : goal.letters_with_c-requires
 letters_with_c-requires c =
-    let p = c.requires.0 in
+    let p = c.requires in
     let d = p.each D in (
       spells_itself c.with_axes-letters.result _ (c.with_axes-letters.ensures.0 _ (c.with_axes.ensures.0 _ d.spells)),
-      (p.each C).checked,
+      checked_c c.args.c c.args.d (p.each C),
       omega (arith, c.with_axes-letters.ensures.1, c.with_axes.ensures.1, d.few, (p.each A).checked.few, (p.each B).checked.few),
     )
 
 pub returns : goal.returns
 unfolding together
 returns c =
-    let p = c.requires.0 in
-    let a = listed c.args.a.axes in
-    let b = listed c.args.b.axes in
-    let z = listed c.args.c.axes in
-    let d = listed c.args.d.axes in
-    let all = c.letters_with_c.ensures ((d ++ a) ++ b) (c.with_axes-letters.ensures.0 _ (c.with_axes.ensures.0 _ (p.each D).spells))
-    (λ e. rw (c.requires.1 e, append_assoc d a b) (labels_again d (a ++ b))) in
+    let p = c.requires in
     record {
       same = elim [ A ↦ refl | B ↦ refl | C ↦ refl | D ↦ refl ];
       gathered =
           record {
             each = elim [ A ↦ p.each A | B ↦ p.each B | C ↦ p.each C | D ↦ p.each D ];
-            stands = c.requires.1;
             all =
-                subst (λ (xs : List Axis). Spells c.letters_with_c.result (labels xs))
-                (append_assoc (d ++ a) b z ∙ append_assoc d a (b ++ z)) all;
+                behind c.args.c c.args.d (listed c.args.a.axes) (listed c.args.b.axes) c.with_axes-letters.result c.letters_with_c.result
+                (c.with_axes-letters.ensures.0 _ (c.with_axes.ensures.0 _ (p.each D).spells)) c.letters_with_c.ensures;
           };
     }

@@ -1,4 +1,4 @@
--- `of` meets its contract: `blocks_in` gives the block counts of the cut, and the branch the panels, at least one. The counts and the products
+-- `of` meets its contract: `blocks_in` gives the block counts of the cut, and the panels are at least one. The counts and the products
 -- are small enough, as the cut is in its limits.
 -- Assumes nothing.
 use mathlib.Core.Path.{◌≡◌, refl}
@@ -9,7 +9,6 @@ use Rattle.tiles.specs.Cut.{Cut, cut_by, MB, NB, KB, total}
 use Rattle.tiles.specs.Grid.{Fits}
 use Rattle.tiles.proofs.Sizes.{M_small, N_small, K_small, columns_small, strips_small, sum_of_small}
 use Rattle.tiles.proofs.grid.Grid.of.Goals as goal
-use Rattle.tiles.proofs.grid.Grid.of.Goals.{then-cut-eq0, else-cut-eq0}
 
 -- the products of numbers that are those of the cut
 products : {G : Cut} {r c p : ℕ} → Fits G → (r ≡ MB G) × (c ≡ NB G) × (p ≡ KB G)
@@ -29,23 +28,20 @@ blocks_in-cut-requires c = let f = c.requires in (f.depth_pos, omega (arith, f.d
 pub overflow_mul-total-2 : goal.overflow_mul-total-2
 unfolding MB NB KB
 overflow_mul-total-2 c =
-    let e = c.blocks_in-cut.ensures in
-    let p : c.if-cut-eq0.panels ≡ KB (cut_by c.args.counts c.args.sizes) = elim c.if-cut-eq0.branch [ then-cut-eq0 w ↦ omega (arith, e) | else-cut-eq0 w ↦ omega (arith, e) ] in
+    let p : c.max-panels.result ≡ KB (cut_by c.args.counts c.args.sizes) = omega arith in
     omega (arith, (products c.requires (c.blocks_in-row_blocks.ensures, c.blocks_in-column_blocks.ensures, p)).1)
 
 pub overflow_mul-total-3 : goal.overflow_mul-total-3
 unfolding MB NB KB
 overflow_mul-total-3 c =
-    let e = c.blocks_in-cut.ensures in
-    let p : c.if-cut-eq0.panels ≡ KB (cut_by c.args.counts c.args.sizes) = elim c.if-cut-eq0.branch [ then-cut-eq0 w ↦ omega (arith, e) | else-cut-eq0 w ↦ omega (arith, e) ] in
+    let p : c.max-panels.result ≡ KB (cut_by c.args.counts c.args.sizes) = omega arith in
     omega (arith, (products c.requires (c.blocks_in-row_blocks.ensures, c.blocks_in-column_blocks.ensures, p)).2)
 
 pub returns : goal.returns
 unfolding MB NB KB
 returns c =
     let f = c.requires in
-    let e = c.blocks_in-cut.ensures in
-    let p : c.if-cut-eq0.panels ≡ KB (cut_by c.args.counts c.args.sizes) = elim c.if-cut-eq0.branch [ then-cut-eq0 w ↦ omega (arith, e) | else-cut-eq0 w ↦ omega (arith, e) ] in (
+    let p : c.max-panels.result ≡ KB (cut_by c.args.counts c.args.sizes) = omega arith in (
       refl,
       record {
         fits = f;

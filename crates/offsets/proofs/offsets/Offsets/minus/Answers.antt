@@ -1,0 +1,20 @@
+-- `Offsets::minus` meets its contract. The invariant: at the places of the first o tensors stand the differences, which wrap.
+-- Assumes nothing.
+use Rattle.std.proofs.Common.{◌≡◌, sym, refl, arith}
+use Rattle.words.proofs.Fronts.{front_none}
+use Rattle.contraction.specs.TensorPlaces.{tensor_count}
+use Rattle.offsets.proofs.OffsetPlaces.{next_place, by_places}
+use Rattle.offsets.proofs.offsets.Offsets.minus.Invariants.{difference_at}
+use Rattle.offsets.proofs.offsets.Offsets.minus.Goals as goal
+
+pub loop-o-init : goal.loop-o-init
+loop-o-init c = sym (front_none (difference_at c.args.self c.args.by) _)
+
+pub loop-o-preserved : goal.loop-o-preserved
+loop-o-preserved c = next_place (difference_at c.args.self c.args.by) _ (omega arith) c.loop-o.invariant c.less.ensures
+
+pub returns : goal.returns
+returns c =
+    let l = c.loop-o in
+    let z : l.o ≡ tensor_count = omega arith in
+    by_places (difference_at c.args.self c.args.by) _ _ (rw z at l.invariant) (λ o. refl)
