@@ -24,7 +24,7 @@ impl Accept {
         let lists = first_no(c, n)?;
         size_refusal(z)?;
         let plan = plan_of(c, lists);
-        let grid = grid_of(plan, z);
+        let grid = grid_of(&plan, z);
         Ok(Accept { plan, grid })
     }
 }

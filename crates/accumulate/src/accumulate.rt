@@ -8,12 +8,11 @@ ghost use Rattle.accumulate.specs.Changes.{Makes};
 
 use limits::limits::Limits;
 
-// What D's words become: alpha × a sum is added, in the first panel to beta × the old word.
+// What D's words become: alpha × a sum is added, in the first panel to beta × the old word. A later panel has no beta.
 #[derive(Clone, Copy)]
 pub struct Factors {
     pub alpha: u32,
-    pub beta: u32,
-    pub first: bool,
+    pub beta: Option<u32>,
 }
 
 // What a panel with a sum makes of a word of D.
@@ -21,10 +20,9 @@ pub fn added(f: Factors, sum: u32, old: u32) -> u32
     ensures { result ≡ added_to f sum old }
 {
     let more = words::mul(f.alpha, sum);
-    if f.first {
-        words::mul(f.beta, old).wrapping_add(more)
-    } else {
-        old.wrapping_add(more)
+    match f.beta {
+        Some(beta) => words::mul(beta, old).wrapping_add(more),
+        None => old.wrapping_add(more),
     }
 }
 

@@ -2,12 +2,11 @@ ghost use Rattle.std.specs.Prelude.{◌≡◌, not, cond, ◌&&◌, ◌||◌, �
 ghost use Rattle.layout.specs.Listed.{listed};
 ghost use Rattle.validity.specs.Checked.{Checked};
 ghost use Rattle.labels.specs.Labels.{extent_of};
-ghost use Rattle.labels.specs.Lettered.{Lettered};
 ghost use Rattle.entries.specs.EntryQuestions.{stride_size, below, strides_apart, apart};
 
 use entries::inside::has_entries;
+use labels::labelled::Labelled;
 use labels::labels::{extent_of, last_index, stride_of};
-use labels::letter_sets::Labelled;
 use layout::axes::Axes;
 
 // The size of a letter's stride.
@@ -36,7 +35,6 @@ fn share(x: Axes, c: u32, d: u32) -> u64
 
 // The sum that c's stride size has to exceed.
 fn sum_below(x: Labelled, c: u32) -> u64
-    requires { Lettered x }
     ensures { result ≡ below (listed x.axes) c }
 {
     let letters = x.letters.as_slice();
@@ -49,7 +47,6 @@ fn sum_below(x: Labelled, c: u32) -> u64
 
 // Does the stride of a label leave room for those that are no greater?
 fn has_room(x: Labelled, c: u32) -> bool
-    requires { Lettered x }
     ensures { result
         ≡ (leb (extent_of c (listed x.axes)) 1 || ltb (below (listed x.axes) c) (stride_size (listed x.axes) c)) }
 {
@@ -58,7 +55,6 @@ fn has_room(x: Labelled, c: u32) -> bool
 
 // Does the stride of each label leave room for those that are no greater?
 fn strides_apart(x: Labelled) -> bool
-    requires { Lettered x }
     ensures { result ≡ strides_apart (listed x.axes) }
 {
     let letters = x.letters.as_slice();
@@ -68,7 +64,6 @@ fn strides_apart(x: Labelled) -> bool
 // Question 9. Whether there are entries is looked at only where the strides don't tell.
 #[tactic(auto, unfolding(entries::specs::EntryQuestions::apart))]
 pub fn all_apart(x: Labelled) -> bool
-    requires { Lettered x }
     ensures { result ≡ apart (listed x.axes) }
 {
     strides_apart(x) || !has_entries(x)

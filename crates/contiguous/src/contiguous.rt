@@ -6,7 +6,7 @@ use accumulate::accumulate::{Factors, add_each, added};
 use limits::limits::Limits;
 
 // The sums from place r on, added to n words of D one after the other, as the panel has it. A product takes many times as long as a sum where words are taken
-// four at a time, so that none is made with a factor 1.
+// four at a time, so that none is made with a factor 1. A later panel has no beta, and takes the old words as they are, which 1 does too.
 pub fn add_contiguous(
     d: &mut [u32],
     at: usize,
@@ -18,29 +18,24 @@ pub fn add_contiguous(
     requires { (at + n ≤ length d.old) × (r + n ≤ block_limit) }
     ensures { d.new ≡ all_added n (added_to f) sums.now r (λ k. at + k) d.old }
 {
-    if f.first & (f.beta != 1) {
-        if f.alpha == 1 {
-            add_each(
-                d,
-                at,
-                n,
-                sums,
-                r,
-                move |sum, old| words::mul(f.beta, old).wrapping_add(sum),
-            );
-        } else {
-            add_each(d, at, n, sums, r, move |sum, old| added(f, sum, old));
-        }
-    } else if f.alpha == 1 {
-        add_each(d, at, n, sums, r, |sum, old| old.wrapping_add(sum));
-    } else {
-        add_each(
+    match (f.alpha, f.beta.unwrap_or(1)) {
+        (1, 1) => add_each(d, at, n, sums, r, |sum, old| old.wrapping_add(sum)),
+        (alpha, 1) => add_each(
             d,
             at,
             n,
             sums,
             r,
-            move |sum, old| old.wrapping_add(words::mul(f.alpha, sum)),
-        );
+            move |sum, old| old.wrapping_add(words::mul(alpha, sum)),
+        ),
+        (1, beta) => add_each(
+            d,
+            at,
+            n,
+            sums,
+            r,
+            move |sum, old| words::mul(beta, old).wrapping_add(sum),
+        ),
+        _ => add_each(d, at, n, sums, r, move |sum, old| added(f, sum, old)),
     }
 }

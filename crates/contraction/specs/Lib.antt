@@ -1,3 +1,4 @@
+pub mod GatheredBy
 pub mod Operands
 pub mod OrderCases
 pub mod TensorAxes

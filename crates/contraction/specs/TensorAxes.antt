@@ -5,12 +5,11 @@ use Rattle.layout.specs.declared.layout.Layout.{Layout}
 use Rattle.layout.specs.declared.axes.Axes.{Axes}
 use Rattle.layout.specs.Listed.{listed}
 use Rattle.layout.specs.Layout.{axes}
-use Rattle.labels.specs.declared.letter_sets.Labelled.{Labelled}
-use Rattle.labels.specs.Labels.{labels}
-use Rattle.labels.specs.LetterSets.{Spells}
+use Rattle.labels.specs.declared.labelled.Labelled.{Labelled}
 use Rattle.labels.specs.Lettered.{Lettered}
 use Rattle.contraction.specs.declared.operands.Operands.{Operands}
-use Rattle.contraction.specs.Operands.{four, Shape, tensors, together}
+use Rattle.contraction.specs.GatheredBy.{GatheredBy}
+use Rattle.contraction.specs.Operands.{four, Shape, tensors}
 use Rattle.contraction.specs.declared.contraction.Operand.{Operand}
 use Rattle.contraction.specs.declared.contraction.Contraction.{Contraction}
 
@@ -34,14 +33,9 @@ pub record ListOf (l : Layout) (x : Labelled) : Type 0 where
 pub record ListedFrom (c : Contraction) (x : Operand → Labelled) : Type 0 where
   pub each : (o : Operand) → ListOf (tensors c o) (x o)
 
--- questions 1 and 3 to 5 passed of each
-pub record AllLettered (x : Operand → Labelled) : Type 0 where
-  pub each : (o : Operand) → Lettered (x o)
-
--- and the letters of all are there
-pub record Gathered (x : Operands) : Type 0 where
-  pub each : (o : Operand) → Lettered (labelled_in x o)
-  pub all : Spells x.letters (labels (together (shape_of x)))
+-- questions 1 and 3 to 5 passed of each, and the letters of all are there
+abbrev pub Gathered : Operands → Type 0
+Gathered x = GatheredBy (labelled_in x) x.letters
 
 -- the code's record of these lists
 pub record Held (x : Operand → Labelled) (r : Operands) : Type 0 where

@@ -36,16 +36,16 @@ fn copy_column(
 pub fn copy_tile(
     c: &[u32],
     from: u64,
-    rows: Block,
-    cols: Block,
+    rows: &Block,
+    cols: &Block,
     d: &mut [u32],
     to: u64,
-    down: Block,
-    across: Block,
+    down: &Block,
+    across: &Block,
 )
-    requires { Copyable from rows cols to down across (length c.now) (length d.old) }
+    requires { Copyable from rows.now cols.now to down.now across.now (length c.now) (length d.old) }
     ensures { d.new
-        ≡ each across.count (column_copied c.now from rows cols to down across) d.old }
+        ≡ each across.now.count (column_copied c.now from rows.now cols.now to down.now across.now) d.old }
 {
     for b in 0..across.count {
         let source = from.wrapping_add(cols.offsets[b]);

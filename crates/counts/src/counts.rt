@@ -17,23 +17,23 @@ fn moved(value: u32, stride: u64) -> u64
 }
 
 // The offset of a count of a group in one tensor, the first label running fastest.
-fn offset_along(g: Group, o: Operand, n: u32) -> u64
-    requires { (g.count ≤ labels_limit) × (n < size (labels_in g)) }
-    ensures { result ≡ word 64 (offset_in (word_of 64) o (labels_in g) n) }
+fn offset_along(g: &Group, o: Operand, n: u32) -> u64
+    requires { (g.now.count ≤ labels_limit) × (n < size (labels_in g.now)) }
+    ensures { result ≡ word 64 (offset_in (word_of 64) o (labels_in g.now) n) }
 {
     let mut at: u64 = 0;
     let mut rest = n;
     for l in g.labels() {
-        at = std::num::wrapping_add_u64(at, moved(rest % l.extent, l.stride(o)));
+        at = at.wrapping_add(moved(rest % l.extent, l.stride(o)));
         rest /= l.extent;
     }
     at
 }
 
-// The same. The count of a single label is its value, and the group is not copied for it.
-pub fn offset_in(g: Group, o: Operand, n: u32) -> u64
-    requires { (g.count ≤ labels_limit) × (n < size (labels_in g)) }
-    ensures { result ≡ word 64 (offset_in (word_of 64) o (labels_in g) n) }
+// The same. The count of a single label is its value, which needs no loop.
+pub fn offset_in(g: &Group, o: Operand, n: u32) -> u64
+    requires { (g.now.count ≤ labels_limit) × (n < size (labels_in g.now)) }
+    ensures { result ≡ word 64 (offset_in (word_of 64) o (labels_in g.now) n) }
 {
     if g.count < 2 {
         return words::scale(n, first_step(g, o));

@@ -17,9 +17,9 @@ pub struct FirstLabel {
 }
 
 impl FirstLabel {
-    pub fn of(g: Group) -> FirstLabel
-        requires { g.count ≤ labels_limit }
-        ensures { FirstLabelOf (labels_in g) result }
+    pub fn of(g: &Group) -> FirstLabel
+        requires { g.now.count ≤ labels_limit }
+        ensures { FirstLabelOf (labels_in g.now) result }
     {
         if g.count == 0 {
             let still = Offsets::none();
@@ -38,9 +38,9 @@ impl FirstLabel {
 }
 
 // Its step in one tensor.
-pub fn first_step(g: Group, o: Operand) -> u64
-    requires { g.count ≤ labels_limit }
-    ensures { result ≡ word_of 64 ((first_label (labels_in g)).stride o) }
+pub fn first_step(g: &Group, o: Operand) -> u64
+    requires { g.now.count ≤ labels_limit }
+    ensures { result ≡ word_of 64 ((first_label (labels_in g.now)).stride o) }
 {
     FirstLabel::of(g).step.of(o)
 }

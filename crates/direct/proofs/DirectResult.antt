@@ -1,8 +1,8 @@
 -- Of a contraction that was accepted: filling D along the folded groups leaves the result, reads and writes only inside the slices, and
--- writes no place twice.
+-- writes no place twice. The words that the loops have for C are C's where it is named; else none of them is read.
 -- Assumes nothing.
 use mathlib.Core.Path.{◌≡◌, refl, sym, ap, ◌∙◌, subst}
-use mathlib.Core.Bool.{Bool, true, cond}
+use mathlib.Core.Bool.{Bool, true, false, cond}
 use mathlib.Core.List.{List}
 use mathlib.Core.Logic.{◌≢◌}
 use Prim.Native.Nat.{ℕ, zero, suc, ◌≤◌, ◌<◌}
@@ -31,8 +31,13 @@ use Rattle.sums.specs.Walk.{reached, sum_from, Readable}
 use Rattle.output_run.specs.FilledOutput.{filled, Clear}
 use Rattle.next_runs.specs.NextRuns.{Distinct}
 
+-- words that are C's where it is named give each sum the same start
+same_start : (b : Bool) {wc c : List ℕ} (at old : ℕ) → (b ≡ true → wc ≡ c) → start_of b (get_or wc at 0) old ≡ start_of b (get_or c at 0) old
+same_start true at old h = ap (λ (ws : List ℕ). get_or ws at 0) (h refl)
+same_start false at old h = refl
+
 module _ (c : Contraction) (w : Slices) (p : AllPassed (tensors c) (lengths_in c w)) (base : Operand → ℕ)
-    (bases : (o : Operand) → base o ≡ (tensors c o).base) where
+    (bases : (o : Operand) → base o ≡ (tensors c o).base) (wc : List ℕ) (named_words : named c ≡ true → wc ≡ w C) where
   -- the folded groups, and the address words of an output count
   abbrev outer : List Label
   outer = fold (outputs (shape_in c))
@@ -51,9 +56,9 @@ module _ (c : Contraction) (w : Slices) (p : AllPassed (tensors c) (lengths_in c
     word_start = rw (bases C) (reached_out (tensors c) (lengths_in c w) p m h C (c_in_d (shape_in c) p.same))
 
     -- where C is named, its word is in its slice
-    start_inside : named c ≡ true → words m C < length (w C)
+    start_inside : named c ≡ true → words m C < length wc
     start_inside e =
-        rw (word_start) (subst (λ (b : Bool). address (tensors c C) (out_index (shape_in c) m) < cond b (length (w C)) (length (w D))) e
+        rw (named_words e, word_start) (subst (λ (b : Bool). address (tensors c C) (out_index (shape_in c) m) < cond b (length (w C)) (length (w D))) e
         (out_inside (tensors c) (lengths_in c w) p m h C (c_in_d (shape_in c) p.same)).1)
 
     module _ (k : ℕ) (i : k < size (group (shape_in c) depth)) (o : Operand) where
@@ -80,12 +85,12 @@ module _ (c : Contraction) (w : Slices) (p : AllPassed (tensors c) (lengths_in c
     sum_is = rw (fold_size (group (shape_in c) depth)) (sum_to_ext (size (group (shape_in c) depth)) (λ k i. rw (read k i A, read k i B)))
 
     value_is : (old : ℕ) → old ≡ entry c w D (out_index (shape_in c) m)
-        → combined c.alpha c.beta (sum_from inner (w A) (w B) (words m)) (start_of (named c) (get_or (w C) (words m C) 0) old)
+        → combined c.alpha c.beta (sum_from inner (w A) (w B) (words m)) (start_of (named c) (get_or wc (words m C) 0) old)
         ≡ value c w (out_index (shape_in c) m)
     unfolding entry
-    value_is old e = rw (sum_is, word_start, e) (sym (value_counts c w (out_index (shape_in c) m)))
+    value_is old e = rw (same_start (named c) (words m C) old named_words, sum_is, word_start, e) (sym (value_counts c w (out_index (shape_in c) m)))
 
-  pub clear : Clear (named c) (size outer) words inner (w A) (w B) (w C) (length (w D))
+  pub clear : Clear (named c) (size outer) words inner (w A) (w B) wc (length (w D))
   clear =
       record {
         reads = λ m h. reads m (rw (fold_size (outputs (shape_in c))) at h);
@@ -126,13 +131,13 @@ module _ (c : Contraction) (w : Slices) (p : AllPassed (tensors c) (lengths_in c
       other : (k : ℕ) → k < m → place k ≢ place m
       other k i e = let q : k ≡ m = places_apart k m (omega arith) h e in omega (arith, q)
 
-  fills : (m : ℕ) → m ≤ size (outputs (shape_in c)) → each m (λ m. filled (named c) c.alpha c.beta inner (w A) (w B) (w C) (words m)) (w D) ≡ overwrite m place put_value (w D)
+  fills : (m : ℕ) → m ≤ size (outputs (shape_in c)) → each m (λ m. filled (named c) c.alpha c.beta inner (w A) (w B) wc (words m)) (w D) ≡ overwrite m place put_value (w D)
   unfolding each filled put place put_value
   fills zero h = refl
   fills (suc m) h =
       rw (fills m (omega arith), word_out m (omega arith))
       (ap (set (overwrite m place put_value (w D)) (place m)) (value_is m (omega arith) _ (unfilled m (omega arith))))
 
-  pub filled_result : each (size outer) (λ m. filled (named c) c.alpha c.beta inner (w A) (w B) (w C) (words m)) (w D) ≡ result c w
+  pub filled_result : each (size outer) (λ m. filled (named c) c.alpha c.beta inner (w A) (w B) wc (words m)) (w D) ≡ result c w
   unfolding result place put_value
   filled_result = rw (fold_size (outputs (shape_in c))) (fills (size (outputs (shape_in c))) (omega arith))

@@ -2,15 +2,13 @@ ghost use Rattle.std.specs.Prelude.{◌≡◌, ◌+◌, ◌*◌, ◌-◌, ◌^�
 ghost use Rattle.words.specs.Words.{up, down, signed};
 ghost use Rattle.limits.specs.Limits.{extent_limit};
 ghost use Rattle.layout.specs.Listed.{listed};
-ghost use Rattle.labels.specs.Lettered.{Lettered};
 ghost use Rattle.entries.specs.EntryQuestions.{has_entries, span, inside};
 
+use labels::labelled::Labelled;
 use labels::labels::{extent_of, last_index, stride_of};
-use labels::letter_sets::Labelled;
 
 // Has the tensor any entry? With an extent 0 it has none.
 pub fn has_entries(x: Labelled) -> bool
-    requires { Lettered x }
     ensures { result ≡ has_entries (listed x.axes) }
 {
     let letters = x.letters.as_slice();
@@ -46,7 +44,6 @@ impl Reach {
 }
 
 pub fn reach_of(x: Labelled) -> Reach
-    requires { Lettered x }
     ensures { (result.up ≡ span up (listed x.axes))
         × (result.down ≡ span down (listed x.axes))
         × (result.up < 2 ^ 60)
@@ -64,7 +61,6 @@ pub fn reach_of(x: Labelled) -> Reach
 // Question 8.
 #[tactic(auto, unfolding(crate::specs::EntryQuestions::inside))]
 pub fn all_inside(x: Labelled, base: u32, length: usize) -> bool
-    requires { Lettered x }
     ensures { result ≡ inside (listed x.axes) base length }
 {
     let reach = reach_of(x);

@@ -4,7 +4,7 @@ ghost use Rattle.limits.specs.Limits.{labels_limit};
 ghost use Rattle.labels.specs.Labels.{labels};
 ghost use Rattle.labels.specs.LetterSets.{has};
 ghost use Rattle.contraction.specs.Operands.{together};
-ghost use Rattle.contraction.specs.TensorAxes.{shape_of, Gathered};
+ghost use Rattle.contraction.specs.TensorAxes.{shape_of};
 ghost use Rattle.groups.specs.Groups.{labels_where};
 ghost use Rattle.groups.specs.Held.{as_label, labels_in};
 ghost use Rattle.groups.specs.Foldable.{Small, Foldable};
@@ -68,8 +68,7 @@ fn add(out: &mut Group, l: Dim)
 // The labels of the letters that the set has, in order of first appearance in D's, A's, B's and C's letters, with labels of extent 1 dropped and labels that
 // step together joined. A label is made where the set has its letter: a list of all labels would be copied for each set.
 pub fn folded(x: Operands, set: u64) -> Group
-    requires { Gathered x
-        × (length (labels (together (shape_of x))) ≤ labels_limit)
+    requires { (length (labels (together (shape_of x))) ≤ labels_limit)
         × Foldable (labels_where (shape_of x) (has set)) }
     ensures { (labels_in result ≡ fold (labels_where (shape_of x) (has set))) × (result.count ≤ labels_limit) }
 {

@@ -47,10 +47,10 @@ pub fn add_to_four(
         let b2 = b[j2 as usize];
         let b3 = b[j3 as usize];
         add_lane_to_four(s0, s1, s2, s3, a, i as usize, n, b0, b1, b2, b3);
-        i = std::num::wrapping_add_u64(i, step_a);
-        j0 = std::num::wrapping_add_u64(j0, step_b);
-        j1 = std::num::wrapping_add_u64(j1, step_b);
-        j2 = std::num::wrapping_add_u64(j2, step_b);
-        j3 = std::num::wrapping_add_u64(j3, step_b);
+        i = i.wrapping_add(step_a);
+        j0 = j0.wrapping_add(step_b);
+        j1 = j1.wrapping_add(step_b);
+        j2 = j2.wrapping_add(step_b);
+        j3 = j3.wrapping_add(step_b);
     }
 }

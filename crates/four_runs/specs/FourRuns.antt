@@ -1,11 +1,12 @@
 -- What the loops over four runs of outputs leave. Inside contracts only.
 -- Assumes nothing.
-use Rattle.std.specs.Prelude.{ℕ, ◌<◌, Bool, ◌≢◌, List}
+use Rattle.std.specs.Prelude.{ℕ, ◌<◌, Bool, ◌≢◌, List, is_some}
 use Rattle.words.specs.Loops.{each}
 use Rattle.contraction.specs.declared.contraction.Operand.TheVariants.{D}
 use Rattle.groups.specs.Groups.{Label}
 use Rattle.offsets.specs.declared.offsets.Offsets.{Offsets}
 use Rattle.output_words.specs.declared.output.Sources.{Sources}
+use Rattle.output_words.specs.StartWords.{words_of}
 use Rattle.sums.specs.declared.walk.Run.{Run}
 use Rattle.sums.specs.Walk.{steps}
 use Rattle.output_run.specs.FilledOutput.{run_filled, Clear}
@@ -23,8 +24,8 @@ pub record Apart (len : ℕ) (from : ℕ → Offsets) (step : Offsets) : Type 0 
 -- ---- for a run and the next three, by the words that D is made from
 
 abbrev pub four_of : Sources → List Label → Run → NextRuns → List ℕ → List ℕ
-four_of x g run next = four_filled x.named x.alpha x.beta g x.a.now x.b.now x.c.now run.step run.len (begins_of run next)
+four_of x g run next = four_filled (is_some x.c) x.alpha x.beta g x.a.now x.b.now (words_of x.c) run.step run.len (begins_of run next)
 
 -- what filling them may assume
 abbrev pub AllFillable : Sources → List Label → Run → NextRuns → ℕ → Type 0
-AllFillable x g run next size = (q : ℕ) → Clear x.named run.len (steps (begins_of run next q) run.step) g x.a.now x.b.now x.c.now size
+AllFillable x g run next size = (q : ℕ) → Clear (is_some x.c) run.len (steps (begins_of run next q) run.step) g x.a.now x.b.now (words_of x.c) size

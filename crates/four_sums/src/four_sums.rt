@@ -28,7 +28,7 @@ pub struct NextRuns {
 fn further(from: Offsets, to: Offsets) -> u64
     ensures { words_in to B ≡ word 64 (result + words_in from B) }
 {
-    std::num::wrapping_sub_u64(to.of(Operand::B), from.of(Operand::B))
+    to.of(Operand::B).wrapping_sub(from.of(Operand::B))
 }
 
 // The products of one run of depth counts, for n outputs of four runs: they share A's words, and B's of another run of outputs are as far from the first one's
@@ -58,9 +58,9 @@ fn add_run(
         × RunAdded n «at» depth.now.walk.step depth.now.walk.len a.now b.now (on_from «at» to_3) s3.old s3.new }
 {
     let j = at.of(Operand::B);
-    let j1 = std::num::wrapping_add_u64(j, to_1);
-    let j2 = std::num::wrapping_add_u64(j, to_2);
-    let j3 = std::num::wrapping_add_u64(j, to_3);
+    let j1 = j.wrapping_add(to_1);
+    let j2 = j.wrapping_add(to_2);
+    let j3 = j.wrapping_add(to_3);
     add_to_four(
         s0,
         s1,

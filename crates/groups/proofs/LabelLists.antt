@@ -16,7 +16,7 @@ use Rattle.contraction.specs.Operands.{together}
 use Rattle.contraction.specs.declared.contraction.Operand.{Operand}
 use Rattle.contraction.specs.declared.contraction.Operand.TheVariants.{A, B, C, D}
 use Rattle.contraction.specs.TensorPlaces.{by_tensor}
-use Rattle.contraction.specs.TensorAxes.{axes_in, shape_of, Gathered}
+use Rattle.contraction.specs.TensorAxes.{axes_in, shape_of}
 use Rattle.groups.specs.declared.groups.Dim.{Dim}
 use Rattle.groups.specs.declared.groups.Group.{Group}
 use Rattle.groups.specs.Groups.{label}
@@ -57,13 +57,13 @@ stride_words x c =
     at A ∷ at B ∷ at C ∷ at D ∷ []
 
 -- a letter's label: its extent in all axes together, and its strides by their address words
-pub as_label_lem : (x : Operands) → Gathered x → (c : ℕ)
+pub as_label_lem : (x : Operands) (c : ℕ)
     → as_label (record { letter = c; extent = extent_of c (together (shape_of x)); strides = stride_words x c }) ≡ label (shape_of x) c
-as_label_lem x h c =
+as_label_lem x c =
     (ap (λ (f : Operand → ℤ). record { letter = c; extent = extent_of c (together (shape_of x)); stride = f }) (fun_ext same))
   where
     word : (o : Operand) → signed 64 (word_of 64 (stride_of c (shape_of x o))) ≡ stride_of c (shape_of x o)
-    word o = signed_stride (axes_in x o) (h.each o).checked.few (h.each o).checked.strides c
+    word o = let ok = (x.gathered.each o).checked in signed_stride (axes_in x o) ok.few ok.strides c
 
     same : (o : Operand) → signed 64 (by_tensor (stride_words x c) o) ≡ stride_of c (shape_of x o)
     same A = word A

@@ -20,7 +20,7 @@ use Rattle.contraction.specs.declared.operands.Operands.{Operands}
 use Rattle.contraction.specs.Operands.{together}
 use Rattle.contraction.specs.declared.contraction.Operand.{Operand}
 use Rattle.contraction.specs.declared.contraction.Operand.TheVariants.{A, B, D}
-use Rattle.contraction.specs.TensorAxes.{shape_of, Gathered}
+use Rattle.contraction.specs.TensorAxes.{shape_of}
 use Rattle.contraction.proofs.Together.{every_together}
 use Rattle.groups.specs.declared.groups.Sets.{Sets}
 use Rattle.groups.specs.Groups.{Group, batch, row, column, depth, group_by, group_of, group_number, in_group, group, outputs, label, letters}
@@ -58,7 +58,7 @@ set_group false true false = of_each_lem _ refl refl refl refl
 set_group false false true = of_each_lem _ refl refl refl refl
 set_group false false false = of_each_lem _ refl refl refl refl
 
-module _ (x : Operands) (h : Gathered x) where
+module _ (x : Operands) where
   -- a tensor's set has just its letters
   has_letter : (o : Operand) (l : Letters) → Spells l (labels (shape_of x o)) → (c : ℕ) → is_letter c ≡ true → has l.set c ≡ member c (letters (shape_of x) o)
   unfolding labels
@@ -71,7 +71,7 @@ module _ (x : Operands) (h : Gathered x) where
       all_once (λ c. is_letter c ≡ true) (letters_of xs)
       (all_map (λ c. is_letter c ≡ true) (λ (a : Axis). a.letter) xs
       (all_imp (λ a. T_true (is_letter a.letter)) xs
-      (every_all (λ (a : Axis). is_letter a.letter) xs (every_together (λ (a : Axis). is_letter a.letter) (shape_of x) (λ o. (h.each o).checked.letters)))))
+      (every_all (λ (a : Axis). is_letter a.letter) xs (every_together (λ (a : Axis). is_letter a.letter) (shape_of x) (λ o. (x.gathered.each o).checked.letters)))))
 
   -- the labels of the letters that D's set has are D's labels
   pub kept_output : (l : Letters) → Spells l (labels (shape_of x D)) → map (label (shape_of x)) (keep (has l.set) (labels (together (shape_of x)))) ≡ outputs (shape_of x)

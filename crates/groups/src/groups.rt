@@ -3,7 +3,7 @@ ghost use Rattle.words.specs.Words.{word_of};
 ghost use Rattle.limits.specs.Limits.{labels_limit};
 ghost use Rattle.labels.specs.Labels.{stride_of};
 ghost use Rattle.contraction.specs.declared.contraction.Operand.TheVariants.{C, D};
-ghost use Rattle.contraction.specs.TensorAxes.{shape_of, Gathered};
+ghost use Rattle.contraction.specs.TensorAxes.{shape_of};
 ghost use Rattle.contraction.specs.TensorPlaces.{by_tensor};
 ghost use Rattle.groups.specs.Groups.{label, size};
 ghost use Rattle.groups.specs.Held.{as_label, labels_in};
@@ -64,7 +64,7 @@ fn sets_of(a: u64, b: u64, d: u64) -> Sets
 
 // The stride of a letter in C. Where C is not named, that is its stride in D, which is `d`.
 fn stride_in_c(x: Operands, c: u32, d: u64) -> u64
-    requires { Gathered x × (d ≡ word_of 64 (stride_of c (shape_of x D))) }
+    requires { d ≡ word_of 64 (stride_of c (shape_of x D)) }
     ensures { result ≡ word_of 64 (stride_of c (shape_of x C)) }
 {
     match x.c {
@@ -75,7 +75,6 @@ fn stride_in_c(x: Operands, c: u32, d: u64) -> u64
 
 // A letter's label.
 pub fn dim_of(x: Operands, c: u32) -> Dim
-    requires { Gathered x }
     ensures { as_label result ≡ label (shape_of x) c }
 {
     let in_d = stride_of(x.d.axes, c);
@@ -140,7 +139,6 @@ impl Group {
 
 // The four groups of a contraction's labels, as sets of letters.
 pub fn groups_of(x: Operands) -> Sets
-    requires { Gathered x }
     ensures { Grouped (shape_of x) result }
 {
     sets_of(x.a.letters.set, x.b.letters.set, x.d.letters.set)

@@ -1,3 +1,4 @@
 pub mod Labels
 pub mod LetterSets
 pub mod Lettered
+pub mod LetteredBy

@@ -5,7 +5,6 @@ ghost use Rattle.layout.specs.Listed.{listed};
 ghost use Rattle.validity.specs.Letters.{is_letter};
 ghost use Rattle.validity.specs.Checked.{Checked};
 ghost use Rattle.labels.specs.LetterSets.{has, spelled, Spells, added};
-ghost use Rattle.labels.specs.Lettered.{Lettered};
 ghost use Rattle.labels.specs.Labels.{labels};
 
 use layout::axes::Axes;
@@ -89,31 +88,5 @@ impl Letters {
             all = all.with(a.letter);
         }
         all
-    }
-}
-
-// A list of axes beside its different letters.
-#[derive(Clone, Copy)]
-pub struct Labelled {
-    pub axes: Axes,
-    pub letters: Letters,
-}
-
-impl Labelled {
-    pub fn none() -> Labelled
-        ensures { Lettered result }
-    {
-        Labelled {
-            axes: Axes::none(),
-            letters: Letters::none(),
-        }
-    }
-
-    pub fn of(axes: Axes) -> Labelled
-        requires { Checked axes }
-        ensures { Lettered result × (result.axes ≡ axes) }
-    {
-        let letters = Letters::none().with_axes(axes);
-        Labelled { axes, letters }
     }
 }

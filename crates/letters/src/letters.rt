@@ -24,24 +24,24 @@ fn letter_of(s: State) -> u8
 }
 
 // The output indices of a batch and a column count: each one's letter at its place in D.
-fn letter_rows(p: Plan, g: Grid, t: u64, h: u32, j: u32, out: &mut [u8])
-    requires { GridOf p g × Placed p (cut_in g) (length out.old) × (h < (cut_in g).H) × (j < (cut_in g).N) }
-    ensures { out.new ≡ each (cut_in g).M (λ i. lettered p (cut_in g) t h i j) out.old }
+fn letter_rows(p: &Plan, g: Grid, t: u64, h: u32, j: u32, out: &mut [u8])
+    requires { GridOf p.now g × Placed p.now (cut_in g) (length out.old) × (h < (cut_in g).H) × (j < (cut_in g).N) }
+    ensures { out.new ≡ each (cut_in g).M (λ i. lettered p.now (cut_in g) t h i j) out.old }
 {
     let o = Operand::D;
-    let row = p.groups.row;
-    let at_column = offset_in(p.groups.column, o, j);
-    let from = std::num::wrapping_add_u64(at_batch(p.base, p.groups.batch, o, h), at_column);
+    let row = &p.groups.row;
+    let at_column = offset_in(&p.groups.column, o, j);
+    let from = at_batch(p.base, &p.groups.batch, o, h).wrapping_add(at_column);
     for i in 0..g.counts.row {
-        let at = std::num::wrapping_add_u64(from, offset_in(row, o, i)) as usize;
+        let at = from.wrapping_add(offset_in(row, o, i)) as usize;
         out[at] = letter_of(g.state(t, h as u64, i as u64, j as u64));
     }
 }
 
 // The output indices of a batch count: each one's letter at its place in D.
-fn letter_columns(p: Plan, g: Grid, t: u64, h: u32, out: &mut [u8])
-    requires { GridOf p g × Placed p (cut_in g) (length out.old) × (h < (cut_in g).H) }
-    ensures { out.new ≡ column_letters p (cut_in g) t h out.old }
+fn letter_columns(p: &Plan, g: Grid, t: u64, h: u32, out: &mut [u8])
+    requires { GridOf p.now g × Placed p.now (cut_in g) (length out.old) × (h < (cut_in g).H) }
+    ensures { out.new ≡ column_letters p.now (cut_in g) t h out.old }
 {
     for j in 0..g.counts.column {
         letter_rows(p, g, t, h, j, out);
@@ -49,9 +49,9 @@ fn letter_columns(p: Plan, g: Grid, t: u64, h: u32, out: &mut [u8])
 }
 
 // All output indices: each one's letter at its place in D.
-pub fn letter_batches(p: Plan, g: Grid, t: u64, out: &mut [u8])
-    requires { GridOf p g × Placed p (cut_in g) (length out.old) }
-    ensures { out.new ≡ each (cut_in g).H (column_letters p (cut_in g) t) out.old }
+pub fn letter_batches(p: &Plan, g: Grid, t: u64, out: &mut [u8])
+    requires { GridOf p.now g × Placed p.now (cut_in g) (length out.old) }
+    ensures { out.new ≡ each (cut_in g).H (column_letters p.now (cut_in g) t) out.old }
 {
     // Without a tile there is no output index, however many counts the groups have.
     if g.total == 0 {

@@ -1,6 +1,6 @@
 -- Runs of outputs from one on. Inside contracts only.
 -- Assumes nothing.
-use Rattle.std.specs.Prelude.{ℕ, ◌+◌, ◌*◌, ◌<◌, ◌≤◌, ◌≡◌, Bool, List, length}
+use Rattle.std.specs.Prelude.{ℕ, ◌+◌, ◌*◌, ◌<◌, ◌≤◌, ◌≡◌, Bool, List, length, is_some}
 use Rattle.words.specs.Loops.{each}
 use Rattle.contraction.specs.declared.contraction.Operand.{Operand}
 use Rattle.contraction.specs.declared.contraction.Operand.TheVariants.{A, B, D}
@@ -9,6 +9,8 @@ use Rattle.offsets.specs.declared.offsets.Offsets.{Offsets}
 use Rattle.offsets.specs.Offsets.{words_in}
 use Rattle.odometer.specs.declared.odometer.Row.{Row}
 use Rattle.odometer.specs.Odometer.{last_in, move_in, Tabled, Stands}
+use Rattle.output_words.specs.declared.output.Sources.{Sources}
+use Rattle.output_words.specs.StartWords.{words_of}
 use Rattle.sums.specs.declared.walk.Walk.{Walk}
 use Rattle.sums.specs.Walk.{places, over, Walks}
 use Rattle.output_run.specs.FilledOutput.{filled, Clear}
@@ -17,6 +19,10 @@ use Rattle.output_run.specs.FilledOutput.{filled, Clear}
 abbrev pub runs_filled : Bool → ℕ → ℕ → Offsets → Walk → Walk → List ℕ → List ℕ → List ℕ → ℕ → ℕ → List ℕ → List ℕ
 runs_filled named alpha beta base output depth a b c m r =
     each (output.len * r) (λ v. filled named alpha beta (over depth) a b c (places base (over output) (output.len * m + v)))
+
+-- the same by the words that D is made from
+abbrev pub runs_of : Sources → Offsets → Walk → Walk → ℕ → ℕ → List ℕ → List ℕ
+runs_of x base output depth = runs_filled (is_some x.c) x.alpha x.beta base output depth x.a.now x.b.now (words_of x.c)
 
 -- where it pays to look for four runs that share what is read of A: not for a few outputs of a run or depth counts, where A goes word by word along a run and B
 -- stands still, and where the label behind the run's has four values at least and A stands still along it. A guess: it changes times only
@@ -41,6 +47,10 @@ pub record Fillable (named : Bool) (base : Offsets) (output depth : Walk) (a b c
   pub depths : Walks (over depth) depth
   pub clear : Clear named (size (over output)) (places base (over output)) (over depth) a b c n
   pub distinct : Distinct (size (over output)) (λ m. places base (over output) m D)
+
+-- the same by the words that D is made from
+abbrev pub FillableFrom : Sources → Offsets → Walk → Walk → ℕ → Type 0
+FillableFrom x base output depth = Fillable (is_some x.c) base output depth x.a.now x.b.now (words_of x.c)
 
 -- ---- what is carried along
 

@@ -4,7 +4,7 @@ ghost use Rattle.offsets.specs.Offsets.{words_in};
 ghost use Rattle.odometer.specs.Odometer.{Stands};
 ghost use Rattle.sums.specs.Walk.{over};
 ghost use Rattle.four_sums.specs.FourRunSums.{begins_of, Shared};
-ghost use Rattle.next_runs.specs.NextRuns.{runs_filled, SuitsFour, Fillable, Moved, Ahead};
+ghost use Rattle.next_runs.specs.NextRuns.{runs_of, SuitsFour, FillableFrom, Moved, Ahead};
 
 use contraction::contraction::Operand;
 use four_runs::four_runs::{fill_four, shares};
@@ -61,34 +61,44 @@ fn look_ahead(
     None
 }
 
-// The words of D of run m, or of run m and the next three where these share what is read of A. Answers how many runs it filled.
+// Where a run of a walk begins: the run's number, the address words there, and the digits of the labels behind the run's own.
+#[derive(Clone, Copy)]
+pub struct RunStart {
+    pub run: u32,
+    pub at: Offsets,
+    pub digits: [u64; Limits::LABELS],
+}
+
+// The words of D of a run, or of the run and the next three where these share what is read of A. Answers how many runs it filled.
 pub fn fill_next(
     x: &Sources,
     d: &mut [u32],
     base: Offsets,
     output: &TabledWalk,
     depth: &TabledWalk,
-    at: Offsets,
-    m: u32,
-    digits: [u64; Limits::LABELS],
+    start: &RunStart,
     fours: bool,
 ) -> u32
-    requires { Fillable x.now.named base output.now.walk depth.now.walk x.now.a.now x.now.b.now x.now.c.now (length d.old)
-        × (length digits ≡ labels_limit)
-        × (m < output.now.walk.runs)
-        × Stands (drop 1 (over output.now.walk)) (words_in base) m digits at }
+    requires { FillableFrom x.now base output.now.walk depth.now.walk (length d.old)
+        × (length start.now.digits ≡ labels_limit)
+        × (start.now.run < output.now.walk.runs)
+        × Stands (drop 1 (over output.now.walk)) (words_in base) start.now.run start.now.digits start.now.at }
     ensures { (1 ≤ result)
-        × (m + result ≤ output.now.walk.runs)
-        × (d.new
-        ≡ runs_filled x.now.named x.now.alpha x.now.beta base output.now.walk depth.now.walk x.now.a.now x.now.b.now x.now.c.now
-        m result d.old) }
+        × (start.now.run + result ≤ output.now.walk.runs)
+        × (d.new ≡ runs_of x.now base output.now.walk depth.now.walk start.now.run result d.old) }
 {
     let run = Run {
-        from: at,
+        from: start.at,
         step: output.walk.step,
         len: output.walk.len,
     };
-    match look_ahead(fours, output.walk.runs - m, run, digits, output.rows) {
+    match look_ahead(
+        fours,
+        output.walk.runs - start.run,
+        run,
+        start.digits,
+        output.rows,
+    ) {
         Some(next) => {
             fill_four(x, d, run, next, depth);
             4

@@ -80,9 +80,9 @@ fn set_rows(labels: &[Dim], rows: &mut [Row])
 }
 
 // The rows of the labels behind a group's first one, at the front of the table.
-pub fn tabulate<'a>(g: Group, table: &'a mut [Row]) -> &'a [Row]
-    requires { (g.count ≤ labels_limit) × (labels_limit ≤ length table.old) }
-    ensures { Rows (labels_in g) result.now }
+pub fn tabulate<'a>(g: &Group, table: &'a mut [Row]) -> &'a [Row]
+    requires { (g.now.count ≤ labels_limit) × (labels_limit ≤ length table.old) }
+    ensures { Rows (labels_in g.now) result.now }
 {
     match g.labels() {
         [] => &table[..0],

@@ -1,5 +1,5 @@
 ghost use Rattle.std.specs.Prelude.{◌≡◌, ◌+◌, ◌-◌, ◌*◌, ◌^◌};
-ghost use Rattle.words.specs.Words.{word, word_of};
+ghost use Rattle.words.specs.Words.{word_of};
 ghost use Rattle.groups.specs.Held.{as_label};
 ghost use Rattle.offsets.specs.Offsets.{words_in, Words};
 
@@ -10,13 +10,6 @@ use groups::groups::Dim;
 #[derive(Clone, Copy)]
 pub struct Offsets {
     pub words: [u64; Contraction::TENSORS],
-}
-
-// One address word less another.
-fn less(x: u64, y: u64) -> u64
-    ensures { result ≡ word 64 (x + (2 ^ 64 - y)) }
-{
-    std::num::wrapping_sub_u64(x, y)
 }
 
 impl Offsets {
@@ -41,7 +34,7 @@ impl Offsets {
     {
         let mut words = self.words;
         for o in 0..Contraction::TENSORS {
-            words[o] = std::num::wrapping_add_u64(self.words[o], by.words[o]);
+            words[o] = self.words[o].wrapping_add(by.words[o]);
         }
         Offsets { words }
     }
@@ -52,7 +45,7 @@ impl Offsets {
     {
         let mut words = self.words;
         for o in 0..Contraction::TENSORS {
-            words[o] = less(self.words[o], by.words[o]);
+            words[o] = self.words[o].wrapping_sub(by.words[o]);
         }
         Offsets { words }
     }

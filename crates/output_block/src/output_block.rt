@@ -1,7 +1,8 @@
-ghost use Rattle.std.specs.Prelude.{◌≡◌, true, ◌≤◌, length};
+ghost use Rattle.std.specs.Prelude.{◌≡◌, true, ◌≤◌, length, is_some};
 ghost use Rattle.words.specs.Loops.{Within};
 ghost use Rattle.limits.specs.Limits.{block_limit};
 ghost use Rattle.contraction.specs.declared.contraction.Operand.TheVariants.{C, D};
+ghost use Rattle.output_words.specs.StartWords.{words_of};
 ghost use Rattle.sums.specs.Walk.{steps, over};
 ghost use Rattle.output_run.specs.FilledOutput.{run_of, RunFillable};
 ghost use Rattle.output_block.specs.StoredRun.{stored_of};
@@ -16,7 +17,7 @@ use sums::walk::Run;
 // The sums of a run of outputs, each combined with what it starts from and stored.
 pub fn store_run(x: &Sources, d: &mut [u32], sums: &[u32; Limits::BLOCK], run: Run)
     requires { (run.len ≤ block_limit)
-        × (x.now.named ≡ true → Within run.len (λ r. steps run.from run.step r C) (length x.now.c.now))
+        × (is_some x.now.c ≡ true → Within run.len (λ r. steps run.from run.step r C) (length (words_of x.now.c)))
         × Within run.len (λ r. steps run.from run.step r D) (length d.old) }
     ensures { d.new ≡ stored_of x.now sums.now run d.old }
 {

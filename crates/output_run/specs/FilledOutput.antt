@@ -1,6 +1,6 @@
 -- What the loop over outputs leaves, by address words. Inside contracts only.
 -- Assumes nothing.
-use Rattle.std.specs.Prelude.{ℕ, ◌<◌, ◌≡◌, Bool, true, List, length, get_or}
+use Rattle.std.specs.Prelude.{ℕ, ◌<◌, ◌≡◌, Bool, true, List, length, get_or, is_some}
 use Rattle.words.specs.Loops.{each, put, Within}
 use Rattle.contraction.specs.declared.contraction.Operand.{Operand}
 use Rattle.contraction.specs.declared.contraction.Operand.TheVariants.{C, D}
@@ -8,6 +8,7 @@ use Rattle.groups.specs.Groups.{Label}
 use Rattle.offsets.specs.declared.offsets.Offsets.{Offsets}
 use Rattle.meaning.specs.Meaning.{start_of, combined}
 use Rattle.output_words.specs.declared.output.Sources.{Sources}
+use Rattle.output_words.specs.StartWords.{words_of}
 use Rattle.sums.specs.declared.walk.Run.{Run}
 use Rattle.sums.specs.Walk.{steps, sum_from, Readable}
 
@@ -28,10 +29,14 @@ pub record Clear (named : Bool) (n : ℕ) (at : ℕ → Operand → ℕ) (g : Li
 
 -- ---- by the words that D is made from
 
--- D's words with a run of outputs filled
+-- D's words with the one at an output's address word filled
+abbrev pub filled_of : Sources → List Label → (Operand → ℕ) → List ℕ → List ℕ
+filled_of x g = filled (is_some x.c) x.alpha x.beta g x.a.now x.b.now (words_of x.c)
+
+-- and with those of a run of outputs filled
 abbrev pub run_of : Sources → List Label → Run → List ℕ → List ℕ
-run_of x g run = run_filled x.named x.alpha x.beta g x.a.now x.b.now x.c.now run.step run.len run.from
+run_of x g run = run_filled (is_some x.c) x.alpha x.beta g x.a.now x.b.now (words_of x.c) run.step run.len run.from
 
 -- what filling a run of outputs may assume: all that is read and written is inside
 abbrev pub RunFillable : Sources → List Label → Run → ℕ → Type 0
-RunFillable x g run = Clear x.named run.len (steps run.from run.step) g x.a.now x.b.now x.c.now
+RunFillable x g run = Clear (is_some x.c) run.len (steps run.from run.step) g x.a.now x.b.now (words_of x.c)

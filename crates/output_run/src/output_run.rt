@@ -13,13 +13,21 @@ pub fn fill_run(x: &Sources, d: &mut [u32], run: Run, depth: &TabledWalk)
     requires { RunFillable x.now (over depth.now.walk) run (length d.old) }
     ensures { d.new ≡ run_of x.now (over depth.now.walk) run d.old }
 {
+    // Copies, as in `store_block`: read from `x` in the loop, they might be words of D that it writes.
+    let Sources {
+        a,
+        b,
+        c,
+        alpha,
+        beta,
+    } = *x;
     let mut at = run.from;
     for _v in 0..run.len {
-        let sum = depth_sum(x.a, x.b, at, depth);
+        let sum = depth_sum(a, b, at, depth);
         let place = at.of(Operand::D) as usize;
         let old = d[place];
-        let start = start_of(x.named, x.c, at.of(Operand::C), old);
-        d[place] = combine(x.alpha, sum, x.beta, start);
+        let start = start_of(c, at.of(Operand::C), old);
+        d[place] = combine(alpha, sum, beta, start);
         at = at.plus(run.step);
     }
 }

@@ -22,7 +22,8 @@ fn width_of(step: Offsets) -> u32
     }
 }
 
-// The words of D along a run of output counts, block by block.
+// The words of D along a run of output counts, block by block. How many outputs are left is counted and not worked out from `v`: the compiler would work a
+// block's length out anew for each loop of the block.
 fn fill_blocks(x: &Sources, d: &mut [u32], run: Run, depth: &TabledWalk)
     requires { RunFillable x.now (over depth.now.walk) run (length d.old) }
     ensures { d.new ≡ run_of x.now (over depth.now.walk) run d.old }
@@ -30,20 +31,22 @@ fn fill_blocks(x: &Sources, d: &mut [u32], run: Run, depth: &TabledWalk)
     let width = width_of(run.step);
     let leap = run.step.times(width);
     let mut at = run.from;
-    for v in (0..run.len).step_by(width as usize) {
+    let mut left = run.len;
+    for _v in (0..run.len).step_by(width as usize) {
         let block = Run {
             from: at,
             step: run.step,
-            len: (run.len - v).min(width),
+            len: left.min(width),
         };
         fill_block(x, d, block, depth);
         at = at.plus(leap);
+        left -= block.len;
     }
 }
 
 // Is a word more than 16 words from the one before, forward or back?
 fn far(step: u64) -> bool {
-    std::num::wrapping_add_u64(step, 15) > 30
+    step.wrapping_add(15) > 30
 }
 
 // Does it pay to sum outputs side by side? Not for a few, not where A and B both go word by word along a long run of depth counts, and not where a tensor goes

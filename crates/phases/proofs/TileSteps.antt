@@ -1,14 +1,16 @@
 -- One tile by its phases. Where the tile stands gives each place that it reads or writes, and that is the place of an entry or of an output at the
 -- tile's counts. So what is packed is the tile's blocks, and the sums that the kernel makes of them are the panel's, which go to the tile's places.
 -- Assumes nothing.
-use mathlib.Core.Path.{◌≡◌, ap, sym, ◌∙◌}
-use mathlib.Core.Bool.{Bool, false, cond}
+use mathlib.Core.Path.{◌≡◌, refl, ap, sym, ◌∙◌}
+use mathlib.Core.Bool.{Bool, true, false, cond}
 use mathlib.Core.List.{List, []}
 use Prim.Native.Nat.{ℕ, ◌+◌, ◌*◌, ◌<◌, ◌≤◌}
 use native.Mathlib.Nat.{le_trans}
 use native.Mathlib.Omega.{arith}
 use lib.Dec.{eqb}
 use lib.ListN.{get_or, set}
+use Rattle.std.specs.Prelude.{Option}
+use Rattle.std.specs.Bool.{then_some}
 use Rattle.words.specs.Words.{word}
 use Rattle.words.specs.Loops.{each, put}
 use Rattle.words.specs.Sums.{sum_to}
@@ -23,7 +25,7 @@ use Rattle.block.specs.declared.block.Block.{Block}
 use Rattle.block.specs.Places.{place_of, as_step, PlacesIn}
 use Rattle.kernel.specs.Kernel.{column_sum}
 use Rattle.accumulate.specs.declared.accumulate.Factors.{Factors}
-use Rattle.accumulate.specs.Added.{added_to}
+use Rattle.accumulate.specs.Added.{times_beta, added_to}
 use Rattle.copy.specs.Copied.{column_copied}
 use Rattle.copy.specs.CopyNeeds.{Copyable}
 use Rattle.columns.specs.declared.column_stores.Packing.{Packing}
@@ -46,6 +48,11 @@ use Rattle.phases.specs.Phases.{OutputClear, from_c, PackedIn}
 -- the packed tile's sizes, as the kernel gets them
 abbrev packing : Cut → ℕ → Packing
 packing G filled = record { rows = G.rows; cols = G.cols; depth = G.depth; filled = filled }
+
+-- the old word times a beta that the first panel alone has
+first_times : (first : Bool) (beta w : ℕ) → times_beta (then_some first beta) w ≡ cond first (beta * w) w
+first_times true beta w = refl
+first_times false beta w = refl
 
 module _ (p : Plan) (G : Cut) (x : Tile) where
   -- ---- a tile of an output tensor
@@ -91,12 +98,12 @@ module _ (p : Plan) (G : Cut) (x : Tile) where
 
   -- ---- sums are added to D's words
   module _ {rows cols : Block} (r : SideBlock p G x D left rows) (c : SideBlock p G x D right cols) {from : ℕ} (e : from ≡ at_batch p x.batch D)
-      (alpha beta : ℕ) {first : Bool} (z : first ≡ eqb x.panel 0) (a b : List ℕ) where
+      (alpha beta : ℕ) {once : Option ℕ} (z : once ≡ then_some (eqb x.panel 0) beta) (a b : List ℕ) where
     abbrev S : Setting
     S = plan_setting p G false alpha beta a b []
 
     abbrev factors : Factors
-    factors = record { alpha = alpha; beta = beta; first = first }
+    factors = record { alpha = alpha; beta = once }
 
     -- the sum of each row and column is their panel sum
     module _ (sum : ℕ → ℕ → ℕ) (is : (i j : ℕ) → i < side_width G x left → j < side_width G x right
@@ -106,11 +113,11 @@ module _ (p : Plan) (G : Cut) (x : Tile) where
           → added_to factors (word 32 (sum i j)) v ≡ add_panel S x.panel x.batch (x.row * G.rows + i) (x.column * G.cols + j) v
       unfolding add_panel plan_setting
       word_added i j h l v =
-          let y = cond first (beta * v) v in
+          let y = times_beta once v in
           sym (word_add_right 32 y (alpha * word 32 (sum i j)))
           ∙ ap (λ (u : ℕ). word 32 (y + u)) (word_mul_right 32 alpha (sum i j))
           ∙ word_add_right 32 y (alpha * sum i j)
-          ∙ rw (z, is i j h l)
+          ∙ rw (z, first_times (eqb x.panel 0) beta v, is i j h l)
 
       -- the stores, one and all
       abbrev stores : ℕ → ℕ → List ℕ → List ℕ
@@ -147,7 +154,7 @@ module _ (p : Plan) (G : Cut) (x : Tile) where
         }
 
     -- ---- what the stores leave, whichever words of A and B were packed
-    module _ (alpha beta : ℕ) {first : Bool} (z : first ≡ eqb x.panel 0) {work : List ℕ} (a b : List ℕ) (w : PackedIn p G x a b work) where
+    module _ (alpha beta : ℕ) {once : Option ℕ} (z : once ≡ then_some (eqb x.panel 0) beta) {work : List ℕ} (a b : List ℕ) (w : PackedIn p G x a b work) where
       -- the sum of a row and a column is their panel sum
       tile_sum_lem : (i j : ℕ) → i < side_width G x left → j < side_width G x right
           → tile_sum work (packing G filled) i j
@@ -161,6 +168,6 @@ module _ (p : Plan) (G : Cut) (x : Tile) where
           rw (ap (λ (y : ℕ). get_or work y 0) front ∙ w.each left i d h m, ap (λ (y : ℕ). get_or work y 0) behind ∙ w.each right j d l m))
 
       pub multiplied : (d : List ℕ) {after : List ℕ}
-          → after ≡ each cols.count (column_stored work (packing G filled) (record { alpha = alpha; beta = beta; first = first }) from cols.offsets rows.offsets rows.count) d
+          → after ≡ each cols.count (column_stored work (packing G filled) (record { alpha = alpha; beta = once }) from cols.offsets rows.offsets rows.count) d
           → after ≡ tile_at G (visit (plan_setting p G false alpha beta a b [])) x.batch x.column x.panel x.row d
       multiplied = sums_added r c e alpha beta z a b (tile_sum work (packing G filled)) tile_sum_lem

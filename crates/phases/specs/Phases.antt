@@ -1,6 +1,8 @@
 -- What the phases of a tile may assume and what they leave. Inside contracts only.
 -- Assumes nothing.
-use Rattle.std.specs.Prelude.{ℕ, ◌+◌, ◌*◌, ◌<◌, ◌≡◌, Bool, false, cond, ◌&&◌, List, [], eqb, get_or}
+use denote.Ref.{Bor}
+use Rattle.std.specs.Prelude.{ℕ, ◌+◌, ◌*◌, ◌<◌, ◌≡◌, Bool, false, cond, ◌&&◌, Option, unwrap_or, List, [], eqb, get_or}
+use Rattle.std.specs.Option.{option_copied}
 use Rattle.words.specs.Loops.{put}
 use Rattle.contraction.specs.declared.contraction.Operand.{Operand}
 use Rattle.contraction.specs.declared.contraction.Operand.TheVariants.{C, D}
@@ -13,6 +15,10 @@ use Rattle.tile_blocks.specs.Side.{Side, tile_on}
 use Rattle.tile_blocks.specs.Planned.{place_of_output, read_in, plan_setting}
 use Rattle.tile_blocks.specs.TilePlaces.{block_in}
 use Rattle.tile_packs.specs.TilePacks.{side_width, panel_width, work_place}
+
+-- the words of C that are lent, and none where C is not named
+abbrev pub words_of_c : Option (Bor (List ℕ)) → List ℕ
+words_of_c c = unwrap_or (option_copied c) []
 
 module _ (p : Plan) (G : Cut) where
   -- all that a tile reads or writes of an output tensor's n words is inside

@@ -1,9 +1,9 @@
-ghost use Rattle.std.specs.Prelude.{◌≡◌, true, length, ◌≤◌};
+ghost use Rattle.std.specs.Prelude.{◌≡◌, true, length, ◌≤◌, is_some};
 ghost use Rattle.contraction.specs.declared.contraction.Operand.TheVariants.{C, D};
 ghost use Rattle.tiles.specs.Grid.{cut_in};
 ghost use Rattle.tile_blocks.specs.PlannedTiles.{Placed};
 ghost use Rattle.tile_packs.specs.TilePacks.{packs};
-ghost use Rattle.phases.specs.Phases.{OutputClear, from_c, begun, Multiplied};
+ghost use Rattle.phases.specs.Phases.{words_of_c, OutputClear, from_c, begun, Multiplied};
 
 use accumulate::accumulate::Factors;
 use columns::column_stores::Packing;
@@ -25,18 +25,20 @@ fn copy_c(t: PlannedTile, c: &[u32], d: &mut [u32])
     let to = t.start(Operand::D);
     let down = t.rows(Operand::D);
     let across = t.columns(Operand::D);
-    copy_tile(c, from, rows, cols, d, to, down, across);
+    copy_tile(c, from, &rows, &cols, d, to, &down, &across);
 }
 
 // The third phase: where C is named, the sums of the first panel start from its words, which are put at the tile's places in D.
-pub fn start_from_c(t: PlannedTile, named: bool, c: &[u32], d: &mut [u32])
+pub fn start_from_c(t: PlannedTile, c: Option<&[u32]>, d: &mut [u32])
     requires { Placed t
-        × (named ≡ true → OutputClear t.plan.now (cut_in t.grid.now) C (length c.now))
+        × (is_some c ≡ true → OutputClear t.plan.now (cut_in t.grid.now) C (length (words_of_c c)))
         × OutputClear t.plan.now (cut_in t.grid.now) D (length d.old) }
-    ensures { d.new ≡ begun t.entry.plan.now (cut_in t.entry.grid.now) t.entry.at named c.now d.old }
+    ensures { d.new ≡ begun t.entry.plan.now (cut_in t.entry.grid.now) t.entry.at (is_some c.entry) (words_of_c c.entry) d.old }
 {
-    if named & (t.at.panel == 0) {
-        copy_c(t, c, d);
+    if let Some(words) = c {
+        if t.at.panel == 0 {
+            copy_c(t, words, d);
+        }
     }
 }
 
@@ -59,8 +61,7 @@ pub fn multiply_into_d(t: PlannedTile, alpha: u32, beta: u32, work: &[u32], d: &
     };
     let factors = Factors {
         alpha,
-        beta,
-        first: t.at.panel == 0,
+        beta: (t.at.panel == 0).then_some(beta),
     };
     multiply(work, d, from, rows, columns, packing, factors);
 }

@@ -7,6 +7,7 @@ use contraction::contraction::{Contraction, Lengths};
 use direct::fill::fill;
 use folding::fold::folded;
 use groups::groups::groups_of;
+use output_words::output::Sources;
 use plan::plan::base_of;
 use questions::questions::first_no;
 use refusals::refusal::Refusal;
@@ -33,17 +34,13 @@ pub fn contract(
     let sets = groups_of(lists);
     let output = folded(lists, lists.d.letters.set);
     let depth = folded(lists, sets.depth);
-    fill(
+    let x = Sources {
         a,
         b,
-        c,
-        d,
-        k.c.is_some(),
-        k.alpha,
-        k.beta,
-        base_of(k),
-        walk_of(output),
-        walk_of(depth),
-    );
+        c: k.c.and(Some(c)),
+        alpha: k.alpha,
+        beta: k.beta,
+    };
+    fill(&x, d, base_of(k), walk_of(output), walk_of(depth));
     Ok(())
 }

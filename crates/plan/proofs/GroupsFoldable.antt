@@ -30,7 +30,7 @@ use Rattle.contraction.specs.declared.operands.Operands.{Operands}
 use Rattle.contraction.specs.Operands.{Shape, tensors, shape, together}
 use Rattle.contraction.specs.declared.contraction.Operand.{Operand}
 use Rattle.contraction.specs.declared.contraction.Operand.TheVariants.{A, B, C, D}
-use Rattle.contraction.specs.TensorAxes.{shape_of, Gathered, Ready}
+use Rattle.contraction.specs.TensorAxes.{shape_of, Ready}
 use Rattle.contraction.proofs.Again.{labels_among, labels_short}
 use Rattle.questions.proofs.Ready.{AllPassed}
 use Rattle.groups.specs.Groups.{Label, Group, in_group, labels_where, group, outputs, label}
@@ -112,8 +112,8 @@ same_shape c x r = fun_ext r.each
 
 module _ (c : Contraction) (x : Operands) (r : Ready c x) (f : AllFoldable (shape (tensors c))) (set : ℕ) where
   -- what `folded` asks, and what it gives
-  pub fold_asks : Gathered x × (length (labels (together (shape_of x))) ≤ labels_limit) × Foldable (labels_where (shape_of x) (has set))
-  fold_asks = (r.gathered, rw (same_shape c x r) f.few, rw (same_shape c x r) (f.labels (has set)))
+  pub fold_asks : (length (labels (together (shape_of x))) ≤ labels_limit) × Foldable (labels_where (shape_of x) (has set))
+  fold_asks = (rw (same_shape c x r) f.few, rw (same_shape c x r) (f.labels (has set)))
 
   pub fold_gives : (g : Shape → List Label) → labels_where (shape_of x) (has set) ≡ g (shape_of x) → (ls : List Label)
       → ls ≡ fold (labels_where (shape_of x) (has set)) → ls ≡ fold (g (shape (tensors c)))

@@ -12,18 +12,17 @@ use Rattle.layout.specs.Layout.{letters_of}
 use Rattle.layout.specs.Listed.{listed}
 use Rattle.validity.specs.Letters.{is_letter}
 use Rattle.validity.specs.TensorQuestions.{letters_valid}
-use Rattle.labels.specs.declared.letter_sets.Labelled.{Labelled}
+use Rattle.labels.specs.declared.labelled.Labelled.{Labelled}
 use Rattle.labels.specs.Labels.{labels}
 use Rattle.labels.specs.LetterSets.{has}
-use Rattle.labels.specs.Lettered.{Lettered}
 use Rattle.points.specs.LabelQuestions.{letters_among, letters_same}
 
-pub among_set : (x y : Labelled) → Lettered x → Lettered y → every (λ a. has y.letters.set a.letter) (listed x.axes) ≡ letters_among (listed x.axes) (listed y.axes)
+pub among_set : (x y : Labelled) → every (λ a. has y.letters.set a.letter) (listed x.axes) ≡ letters_among (listed x.axes) (listed y.axes)
 unfolding labels letters_valid
-among_set x y p q =
+among_set x y =
     every_same (λ a. has y.letters.set a.letter) (λ a. member a.letter (letters_of (listed y.axes))) (listed x.axes)
-    (all_imp (λ a v. q.spells.sets a.letter (T_true (is_letter a.letter) v) ∙ member_once a.letter (letters_of (listed y.axes))) (listed x.axes)
-    (every_all (λ a. is_letter a.letter) (listed x.axes) p.checked.letters))
+    (all_imp (λ a v. y.lettered.spells.sets a.letter (T_true (is_letter a.letter) v) ∙ member_once a.letter (letters_of (listed y.axes))) (listed x.axes)
+    (every_all (λ a. is_letter a.letter) (listed x.axes) x.lettered.checked.letters))
 
 pub same_itself : (xs : List Axis) → letters_same xs xs ≡ true
 unfolding letters_same

@@ -6,7 +6,7 @@ ghost use Rattle.labels.specs.Labels.{extent_of};
 ghost use Rattle.labels.specs.LetterSets.{has};
 ghost use Rattle.contraction.specs.Operands.{together};
 ghost use Rattle.contraction.specs.declared.contraction.Operand.TheVariants.{C, D};
-ghost use Rattle.contraction.specs.TensorAxes.{shape_of, Gathered};
+ghost use Rattle.contraction.specs.TensorAxes.{shape_of};
 ghost use Rattle.points.specs.LabelQuestions.{extents_agree, letters_same, points_fit};
 
 use contraction::operands::Operands;
@@ -16,7 +16,7 @@ use limits::limits::Limits;
 
 // Have the axes of a tensor the extents of their labels?
 fn extents_as(x: Operands, t: Axes) -> bool
-    requires { Gathered x × (t.count ≤ rank_limit) }
+    requires { t.count ≤ rank_limit }
     ensures { result ≡ every (λ a. eqb a.extent (extent_of a.letter (together (shape_of x)))) (listed t) }
 {
     let axes = t.as_slice();
@@ -25,7 +25,7 @@ fn extents_as(x: Operands, t: Axes) -> bool
 
 // The same of C's axes. Where C is not named they are D's, of which `d` is the answer.
 fn extents_as_c(x: Operands, d: bool) -> bool
-    requires { Gathered x × (d ≡ every (λ a. eqb a.extent (extent_of a.letter (together (shape_of x)))) (shape_of x D)) }
+    requires { d ≡ every (λ a. eqb a.extent (extent_of a.letter (together (shape_of x)))) (shape_of x D) }
     ensures { result ≡ every (λ a. eqb a.extent (extent_of a.letter (together (shape_of x)))) (shape_of x C) }
 {
     match x.c {
@@ -36,7 +36,6 @@ fn extents_as_c(x: Operands, d: bool) -> bool
 
 // Question 6.
 pub fn extents_agree(x: Operands) -> bool
-    requires { Gathered x }
     ensures { result ≡ extents_agree (together (shape_of x)) }
 {
     let d = extents_as(x, x.d.axes);
@@ -59,7 +58,6 @@ fn letters_in(t: Axes, set: u64) -> bool
 
 // Question 30. Where C is not named, its letters are D's.
 pub fn letters_same(x: Operands) -> bool
-    requires { Gathered x }
     ensures { result ≡ letters_same (shape_of x C) (shape_of x D) }
 {
     match x.c {
@@ -70,7 +68,6 @@ pub fn letters_same(x: Operands) -> bool
 
 // Question 7. An extent 0 counts as 1, and the product stops growing just above the limit.
 pub fn points_fit(x: Operands) -> bool
-    requires { Gathered x }
     ensures { result ≡ points_fit (together (shape_of x)) }
 {
     let letters = x.letters.as_slice();

@@ -6,13 +6,15 @@ use mathlib.Core.List.{List, [], ◌∷◌, ◌++◌}
 use Prim.Native.Nat.{ℕ}
 use Rattle.std.specs.Prelude.{Result, Ok, IsErrAnd, Option, Some, None, is_some, unwrap_or, MatchOption}
 use Rattle.std.specs.Option.{option_and}
+use Rattle.std.specs.Result.{result_copied}
+use Rattle.std.specs.Borrow.{Bor}
 use Rattle.layout.specs.declared.layout.Layout.{Layout}
 use Rattle.refusals.specs.declared.refusal.Refusal.{Refusal}
 use Rattle.refusals.specs.Numbers.{number, status}
 use Rattle.refusals.proofs.Numbers.{errs}
 use Rattle.layout.specs.Listed.{listed}
 use Rattle.layout.specs.Layout.{axes}
-use Rattle.labels.specs.declared.letter_sets.Labelled.{Labelled}
+use Rattle.labels.specs.declared.labelled.Labelled.{Labelled}
 use Rattle.contraction.specs.declared.contraction.Contraction.{Contraction}
 use Rattle.contraction.specs.declared.contraction.Lengths.{Lengths}
 use Rattle.contraction.specs.declared.operands.Operands.{Operands}
@@ -34,6 +36,10 @@ of_c : (c : Option Layout) (d : Layout) (r s : Labelled) → listed r.axes ≡ a
     → listed (unwrap_or (option_and c (Some r)) s).axes ≡ axes (unwrap_or c d)
 of_c (Some l) d r s e f = e
 of_c None d r s e f = f
+
+-- an answer that passed, as it stands behind a reference
+pub lent : {a : Result Asked Refusal} {r : Result (Bor Asked) (Bor Refusal)} {x : Bor Asked} → result_copied r ≡ a → r ≡ Ok x → a ≡ Ok x.now
+lent e f = sym e ∙ ap result_copied f
 
 and_true : (b : Bool) → (b && true) ≡ b
 and_true true = refl

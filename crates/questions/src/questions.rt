@@ -48,7 +48,8 @@ pub fn first_no(c: Contraction, n: Lengths) -> Result<Operands, Refusal>
     let d = Asked::of(c.d, n.d);
     let third = asked_of_c(c.c, n.c, d);
     both(&a, &both(&b, &both(&third, &d)))?;
-    let (a, b, third, d) = (a.unwrap(), b.unwrap(), third.unwrap(), d.unwrap());
+    let (a, b) = (a.as_ref().unwrap(), b.as_ref().unwrap());
+    let (third, d) = (third.as_ref().unwrap(), d.as_ref().unwrap());
     let lists = Operands::of(a.lists, b.lists, c.c.and(Some(third.lists)), d.lists);
     let inside = a.inside & (b.inside & (third.inside & d.inside));
     later_refusal(c, n, lists, inside)?;

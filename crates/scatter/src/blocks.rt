@@ -15,12 +15,12 @@ use limits::limits::Limits;
 
 // The scatter vector of `count` counts of a group from `first` on: their offsets in one tensor, moved by `from`. They are formed anew where the first
 // label starts again, and a step is added elsewhere; `left` is how many steps there are up to the next start.
-fn scatter_labels(g: Group, o: Operand, from: u64, first: u32, count: usize, out: &mut [u64])
-    requires { (g.count ≤ labels_limit)
-        × (size (labels_in g) < 2 ^ 32)
-        × (first + count ≤ size (labels_in g))
+fn scatter_labels(g: &Group, o: Operand, from: u64, first: u32, count: usize, out: &mut [u64])
+    requires { (g.now.count ≤ labels_limit)
+        × (size (labels_in g.now) < 2 ^ 32)
+        × (first + count ≤ size (labels_in g.now))
         × (count ≤ length out.old) }
-    ensures { out.new ≡ scatter_vector o from (labels_in g) first count out.old }
+    ensures { out.new ≡ scatter_vector o from (labels_in g.now) first count out.old }
 {
     let label = FirstLabel::of(g);
     let step = label.step.of(o);
@@ -52,13 +52,13 @@ fn step_vector(start: u64, step: u64, count: usize, out: &mut [u64])
     }
 }
 
-// The same as `scatter_labels`. The counts of a single label lie a step apart, and the group is not copied for them.
-pub fn scatter_vector(g: Group, o: Operand, from: u64, first: u32, count: usize, out: &mut [u64])
-    requires { (g.count ≤ labels_limit)
-        × (size (labels_in g) < 2 ^ 32)
-        × (first + count ≤ size (labels_in g))
+// The same as `scatter_labels`. The counts of a single label lie a step apart.
+pub fn scatter_vector(g: &Group, o: Operand, from: u64, first: u32, count: usize, out: &mut [u64])
+    requires { (g.now.count ≤ labels_limit)
+        × (size (labels_in g.now) < 2 ^ 32)
+        × (first + count ≤ size (labels_in g.now))
         × (count ≤ length out.old) }
-    ensures { out.new ≡ scatter_vector o from (labels_in g) first count out.old }
+    ensures { out.new ≡ scatter_vector o from (labels_in g.now) first count out.old }
 {
     if g.count < 2 {
         let step = first_step(g, o);
@@ -70,12 +70,12 @@ pub fn scatter_vector(g: Group, o: Operand, from: u64, first: u32, count: usize,
 }
 
 // In one tensor the block of `count` counts of a group from `first` on.
-pub fn block_of(g: Group, o: Operand, first: u32, count: usize) -> Block
-    requires { (g.count ≤ labels_limit)
-        × (size (labels_in g) < 2 ^ 32)
-        × (first + count ≤ size (labels_in g))
+pub fn block_of(g: &Group, o: Operand, first: u32, count: usize) -> Block
+    requires { (g.now.count ≤ labels_limit)
+        × (size (labels_in g.now) < 2 ^ 32)
+        × (first + count ≤ size (labels_in g.now))
         × (count ≤ block_limit) }
-    ensures { Blocked o (labels_in g) first count result }
+    ensures { Blocked o (labels_in g.now) first count result }
 {
     let mut offsets = [0u64; Limits::BLOCK];
     scatter_vector(g, o, 0, first, count, &mut offsets);

@@ -38,8 +38,8 @@ fn add_still(sums: &mut [u32; Limits::BLOCK], x: &Side, y: &Side, len: u32, n: u
     for _v in 0..len {
         let by = y.words[j as usize];
         add_times(sums, x.words, i, x.along, n, by);
-        i = std::num::wrapping_add_u64(i, x.step);
-        j = std::num::wrapping_add_u64(j, y.step);
+        i = i.wrapping_add(x.step);
+        j = j.wrapping_add(y.step);
     }
 }
 
@@ -58,8 +58,8 @@ fn add_moving(sums: &mut [u32; Limits::BLOCK], a: &Side, b: &Side, len: u32, n: 
     let mut j = b.from;
     for _v in 0..len {
         add_products(sums, a.words, b.words, i, j, a.along, b.along, n);
-        i = std::num::wrapping_add_u64(i, a.step);
-        j = std::num::wrapping_add_u64(j, b.step);
+        i = i.wrapping_add(a.step);
+        j = j.wrapping_add(b.step);
     }
 }
 

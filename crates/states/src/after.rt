@@ -34,6 +34,6 @@ pub fn letters_after(
     let x = Accept::of(k, z, n).unwrap();
     let g = x.grid;
     clear(out);
-    letter_batches(x.plan, g, t, out);
+    letter_batches(&x.plan, g, t, out);
     g.total
 }

@@ -24,7 +24,7 @@ fn sum_of_runs(a: &[u32], b: &[u32], from: Offsets, depth: &TabledWalk) -> u32
         let i = at.of(Operand::A);
         let j = at.of(Operand::B);
         let run = run_sum(a, b, i, j, step_a, step_b, depth.walk.len);
-        sum = std::num::wrapping_add_u32(sum, run);
+        sum = sum.wrapping_add(run);
         at = advance(at, &mut digits, depth.rows);
     }
     sum

@@ -29,7 +29,7 @@ pub fn walk_of(g: Group) -> Walk
     requires { (g.count ≤ labels_limit) × Foldable (labels_in g) }
     ensures { Walks (labels_in g) result }
 {
-    let label = FirstLabel::of(g);
+    let label = FirstLabel::of(&g);
     let step = label.step;
     let runs = if label.len == 0 {
         0

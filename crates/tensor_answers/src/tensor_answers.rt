@@ -1,7 +1,7 @@
 ghost use Rattle.tensor_answers.specs.Answers.{BothOf, AskedOf};
 
 use entries::inside::all_inside;
-use labels::letter_sets::Labelled;
+use labels::labelled::Labelled;
 use layout::axes::Axes;
 use layout::layout::Layout;
 use refusals::refusal::{Refusal, ask};

@@ -2,7 +2,7 @@
 -- and not along the rows changes nothing: no two outputs have a place in common.
 -- Assumes nothing.
 use mathlib.Core.Path.{◌≡◌, refl, ap, sym, ◌∙◌}
-use mathlib.Core.Bool.{Bool, false}
+use mathlib.Core.Bool.{false}
 use mathlib.Core.Logic.{◌≢◌}
 use mathlib.Core.List.{List, []}
 use Prim.Native.Nat.{ℕ, ◌+◌, ◌*◌, ◌<◌, ◌≤◌}
@@ -10,6 +10,8 @@ use native.Mathlib.Nat.{le_refl, le_trans, mul_comm}
 use native.Mathlib.Omega.{arith}
 use lib.Dec.{eqb}
 use lib.ListN.{length, get_or}
+use Rattle.std.specs.Prelude.{Option}
+use Rattle.std.specs.Bool.{then_some}
 use Rattle.words.specs.Words.{word}
 use Rattle.words.specs.Sums.{sum_to}
 use Rattle.words.specs.Loops.{put}
@@ -116,12 +118,12 @@ module _ (p : Plan) (G : Cut) (x : Tile) where
         (record { each = λ i h. record { each = λ j l. rw (place_swap to down.offsets across.offsets i j) (((written begins clear).each j l).each i h) } })
 
     -- ---- what the lines leave
-    module _ (alpha beta : ℕ) {first : Bool} (z : first ≡ eqb x.panel 0) (a b : List ℕ) where
+    module _ (alpha beta : ℕ) {once : Option ℕ} (z : once ≡ then_some (eqb x.panel 0) beta) (a b : List ℕ) where
       abbrev sum : ℕ → ℕ → ℕ
       sum = cross_sum a in-a rows.offsets b in_b cols.offsets deep
 
       abbrev factors : Factors
-      factors = record { alpha = alpha; beta = beta; first = first }
+      factors = record { alpha = alpha; beta = once }
 
       cross_sum_lem : (i j : ℕ) → i < side_width G x left → j < side_width G x right
           → sum i j ≡ panel_sum (plan_setting p G false alpha beta a b []) x.batch (x.row * G.rows + i) (x.column * G.cols + j) x.panel

@@ -56,8 +56,7 @@ pub fn thin_tile(t: PlannedTile, alpha: u32, beta: u32, a: &[u32], b: &[u32], d:
     let deep = t.filled();
     let f = Factors {
         alpha,
-        beta,
-        first: t.at.panel == 0,
+        beta: (t.at.panel == 0).then_some(beta),
     };
     if cols.count <= 4 {
         thin_lines(a, b, &in_a, &in_b, deep, rows, cols, d, to, down, across, f)

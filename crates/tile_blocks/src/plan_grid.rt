@@ -5,20 +5,15 @@ use plan::plan::Plan;
 use tiles::grid::{Counts, Grid, Sizes};
 
 // The grid of a plan's groups.
-pub fn grid_of(p: Plan, z: Sizes) -> Grid
-    requires { PlanFits p z }
-    ensures { GridOf p result × (result.sizes ≡ z) }
+pub fn grid_of(p: &Plan, z: Sizes) -> Grid
+    requires { PlanFits p.now z }
+    ensures { GridOf p.now result × (result.sizes ≡ z) }
 {
-    let groups = p.groups;
-    let batch = groups.batch;
-    let row = groups.row;
-    let column = groups.column;
-    let depth = groups.depth;
     let counts = Counts {
-        batch: batch.size_from(0),
-        row: row.size_from(0),
-        column: column.size_from(0),
-        depth: depth.size_from(0),
+        batch: p.groups.batch.size_from(0),
+        row: p.groups.row.size_from(0),
+        column: p.groups.column.size_from(0),
+        depth: p.groups.depth.size_from(0),
     };
     Grid::of(counts, z)
 }

@@ -30,7 +30,7 @@ impl PlannedTile<'_> {
         requires { Placed self }
         ensures { result ≡ at_batch self.entry.plan.now self.entry.at.batch o }
     {
-        at_batch(self.plan.base, self.plan.groups.batch, o, self.at.batch)
+        at_batch(self.plan.base, &self.plan.groups.batch, o, self.at.batch)
     }
 
     // In one tensor, the block of the tile's rows.
@@ -40,7 +40,7 @@ impl PlannedTile<'_> {
     {
         let g = self.grid;
         cut_block(
-            self.plan.groups.row,
+            &self.plan.groups.row,
             o,
             g.counts.row,
             g.sizes.rows,
@@ -55,7 +55,7 @@ impl PlannedTile<'_> {
     {
         let g = self.grid;
         cut_block(
-            self.plan.groups.column,
+            &self.plan.groups.column,
             o,
             g.counts.column,
             g.sizes.cols,
@@ -81,7 +81,7 @@ impl PlannedTile<'_> {
         let g = self.grid;
         let from = self.start(o);
         panel_starts(
-            self.plan.groups.depth,
+            &self.plan.groups.depth,
             o,
             from,
             g.counts.depth,

@@ -7,6 +7,7 @@ ghost use Rattle.tiled.specs.TileCall.{tile_call, state_call};
 use accept::accept::Accept;
 use answers::tile_answer::Ran;
 use contraction::contraction::{Contraction, Lengths};
+use one_tile::tile::TiledCall;
 use refusals::refusal::Refusal;
 use tile_questions::tile_refusals::{state_refusal, tile_refusal};
 use tiles::grid::{Sizes, State};
@@ -39,10 +40,16 @@ pub fn run(
     let total = g.total;
     let left = total - done;
     let count = budget.min(left);
-    let named = k.c.is_some();
-    let t = run_tiles(
-        x.plan, g, named, k.alpha, k.beta, a, b, c, d, work, done, count,
-    );
+    let call = TiledCall {
+        plan: &x.plan,
+        grid: &g,
+        alpha: k.alpha,
+        beta: k.beta,
+        a,
+        b,
+        c: k.c.is_some().then_some(c),
+    };
+    let t = run_tiles(call, d, work, done, count);
     let ran = Ran {
         done: t,
         complete: t == total,

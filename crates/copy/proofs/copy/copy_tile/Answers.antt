@@ -15,6 +15,6 @@ loop-b-preserved c =
     let a = c.args in
     let r = c.copy_column in (
       r.auto.d ∙ l.invariant.0,
-      each_next (column_copied a.c.now a.from a.rows a.cols a.to a.down a.across) l.b a.d.now l.invariant.1
+      each_next (column_copied a.c.now a.from a.rows.now a.cols.now a.to a.down.now a.across.now) l.b a.d.now l.invariant.1
           r.ensures,
     )

@@ -1,7 +1,7 @@
 -- `offset_along` meets its contract. The loop goes from the first label to the last, as `offset_in` does; its invariant: `at` is the offset of the
 -- labels done, and a count of the labels that are left is still to be added.
 -- Assumes nothing.
-use Rattle.std.proofs.Common.{arith}
+use Rattle.std.proofs.Common.{refl, arith}
 use Rattle.counts.proofs.CountWords.{offsets_start, extent_at, turn, offsets_end}
 use Rattle.counts.proofs.counts.offset_along.Goals as goal
 
@@ -18,8 +18,7 @@ pub loop-l-preserved : goal.loop-l-preserved
 loop-l-preserved c =
     let l = c.loop-l in
     let xs = c.labels-l-items.result.now in
-    turn c.args.o xs l.l-index (omega arith) l.invariant c.moved.result c.wrapping_add_u64-at.result
-    (rw c.stride.ensures at c.moved.ensures) c.wrapping_add_u64-at.ensures.value
+    turn c.args.o xs l.l-index (omega arith) l.invariant c.moved-at.result _ (rw c.stride.ensures at c.moved-at.ensures) refl
 
 pub returns : goal.returns
 returns c = offsets_end c.args.o c.labels-l-items.result.now c.loop-l.l-index (omega arith) c.loop-l.invariant

@@ -17,4 +17,4 @@ of_one g o n h i e w = w ∙ ap (λ (s : ℕ). word 64 (n * s)) e ∙ sym (ap (w
 
 pub returns-then-g-lt2 : goal.returns-then-g-lt2
 returns-then-g-lt2 c =
-    of_one c.args.g _ c.args.n (omega arith) c.requires.1 c.first_step.ensures c.scale.ensures
+    of_one c.args.g.now _ c.args.n (omega arith) c.requires.1 c.first_step.ensures c.scale.ensures

@@ -9,7 +9,7 @@ use Rattle.labels.specs.Labels.{labels}
 use Rattle.labels.specs.LetterSets.{has, spelled}
 use Rattle.contraction.specs.declared.operands.Operands.{Operands}
 use Rattle.contraction.specs.Operands.{together}
-use Rattle.contraction.specs.TensorAxes.{shape_of, Gathered}
+use Rattle.contraction.specs.TensorAxes.{shape_of}
 use Rattle.groups.specs.declared.groups.Dim.{Dim}
 use Rattle.groups.specs.Groups.{Label, label, labels_where}
 use Rattle.groups.specs.Held.{as_label, labels_in}
@@ -45,14 +45,14 @@ module _ (f : ℕ → Label) (p : ℕ → Bool) (cs : List ℕ) (i : ℕ) {done 
     turn_add = fold_add done left all (as_label l) kept
 
 -- the code's list has all letters
-letters_are : (x : Operands) → Gathered x → x.letters.count ≤ length x.letters.letters → take x.letters.count x.letters.letters ≡ labels (together (shape_of x))
+letters_are : (x : Operands) → x.letters.count ≤ length x.letters.letters → take x.letters.count x.letters.letters ≡ labels (together (shape_of x))
 unfolding spelled
-letters_are x h b = sym (first_taken 0 x.letters.letters x.letters.count b) ∙ h.all.spells
+letters_are x b = sym (first_taken 0 x.letters.letters x.letters.count b) ∙ x.gathered.all.spells
 
 -- the labels of all letters that the set has
-all_letters : (x : Operands) → Gathered x → x.letters.count ≤ length x.letters.letters → (p : ℕ → Bool)
+all_letters : (x : Operands) → x.letters.count ≤ length x.letters.letters → (p : ℕ → Bool)
     → rest (label (shape_of x)) p (take x.letters.count x.letters.letters) 0 ≡ labels_where (shape_of x) p
-all_letters x h b p = ap (λ cs. map (label (shape_of x)) (keep p cs)) (letters_are x h b)
+all_letters x b p = ap (λ cs. map (label (shape_of x)) (keep p cs)) (letters_are x b)
 
 -- the set has the letter at a place where the test of the letter that is read there says so
 kept_letter : (set : ℕ) {c here : ℕ} {b v : Bool} → c ≡ here → b ≡ has set c → b ≡ v → has set here ≡ v
@@ -61,15 +61,15 @@ kept_letter set e f g = ap (has set) (sym e) ∙ sym f ∙ g
 pub loop-c-init : goal.loop-c-init
 loop-c-init c =
     let x = c.args.x in
-    (omega arith, rw (c.none-out.ensures.0, all_letters x c.requires.0 (omega (arith, c.requires.0.all.few)) (has c.args.set)) (fold_start _ c.requires.2))
+    (omega arith, rw (c.none-out.ensures.0, all_letters x (omega (arith, x.gathered.all.few)) (has c.args.set)) (fold_start _ c.requires.1))
 
 pub add-requires : goal.add-requires
 add-requires c =
     let l = c.loop-c in
     let x = c.args.x in
     let cs = take x.letters.count x.letters.letters in
-    let few = ap length (letters_are x c.requires.0 (omega (arith, c.requires.0.all.few))) in (
-      omega (arith, l.invariant.0, few, c.requires.1),
+    let few = ap length (letters_are x (omega (arith, x.gathered.all.few))) in (
+      omega (arith, l.invariant.0, few, c.requires.0),
       l.invariant.1.foldable,
       (turn_add (label (shape_of x)) (has c.args.set) cs l.c-index (omega arith) l.invariant.1 c.dim_of-l.result (c.dim_of-l.ensures ∙ ap (label (shape_of x)) c.wide-c.ensures)
           (kept_letter c.args.set c.wide-c.ensures c.has_letter.ensures c.if-has_letter.true) c.if-l-ne1.true).foldable,
@@ -105,6 +105,6 @@ returns c =
     let l = c.loop-c in
     let x = c.args.x in
     let cs = take x.letters.count x.letters.letters in
-    let few = ap length (letters_are x c.requires.0 (omega (arith, c.requires.0.all.few))) in
+    let few = ap length (letters_are x (omega (arith, x.gathered.all.few))) in
     let e : l.c-index ≡ length cs = omega arith in
-    (fold_end (labels_in l.out) (labels_where (shape_of x) (has c.args.set)) (rw (e, drop-length cs) at l.invariant.1), omega (arith, l.invariant.0, few, c.requires.1))
+    (fold_end (labels_in l.out) (labels_where (shape_of x) (has c.args.set)) (rw (e, drop-length cs) at l.invariant.1), omega (arith, l.invariant.0, few, c.requires.0))

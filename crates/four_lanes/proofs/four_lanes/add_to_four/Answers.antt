@@ -1,7 +1,7 @@
 -- `add_to_four` meets its contract. The invariant: the address words are v steps from the first, and each run's sums have grown by the products of v depth
 -- counts.
 -- Assumes nothing.
-use Rattle.std.proofs.Common.{ℕ, ◌<◌, List, length, arith}
+use Rattle.std.proofs.Common.{ℕ, ◌<◌, refl, List, length, arith}
 use Rattle.words.specs.Stepped.{stepped}
 use Rattle.words.proofs.Modular.{step_none, step_more}
 use Rattle.side_sums.specs.SideSums.{side_run}
@@ -83,11 +83,11 @@ loop-v-preserved c =
     let h : l._v < x.len = omega arith in
     let e = c.add_lane_to_four.ensures in
     let turn = lane_turn c.requires.0 c.requires.1 x.a.now (omega arith) x.from_a x.step_a {len = x.len} {v = l._v} l.invariant.0 h (λ r i. ((c.requires.3 0).each r i).in_a) x.b.now in (
-      step_more x.from_a x.step_a l._v l.invariant.0 c.wrapping_add_u64-i.ensures.value,
-      step_more x.from_0 x.step_b l._v l.invariant.1 c.wrapping_add_u64-j0.ensures.value,
-      step_more x.from_1 x.step_b l._v l.invariant.2 c.wrapping_add_u64-j1.ensures.value,
-      step_more x.from_2 x.step_b l._v l.invariant.3 c.wrapping_add_u64-j2.ensures.value,
-      step_more x.from_3 x.step_b l._v l.invariant.4 c.wrapping_add_u64-j3.ensures.value,
+      step_more x.from_a x.step_a l._v l.invariant.0 refl,
+      step_more x.from_0 x.step_b l._v l.invariant.1 refl,
+      step_more x.from_1 x.step_b l._v l.invariant.2 refl,
+      step_more x.from_2 x.step_b l._v l.invariant.3 refl,
+      step_more x.from_3 x.step_b l._v l.invariant.4 refl,
       turn x.from_0 x.step_b _ _ _ _ l.invariant.1 c.requires.2.first l.invariant.5 e.0,
       turn x.from_1 x.step_b _ _ _ _ l.invariant.2 c.requires.2.second l.invariant.6 e.1,
       turn x.from_2 x.step_b _ _ _ _ l.invariant.3 c.requires.2.third l.invariant.7 e.2,

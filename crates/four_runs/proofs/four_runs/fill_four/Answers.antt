@@ -1,11 +1,12 @@
 -- `fill_four` meets its contract. The invariant: the address words of each run are v steps from its first, and the words of D are those that the first v counts of
 -- the four runs leave. A turn fills a block of the next counts of each run, or the last one those that are left.
 -- Assumes nothing.
-use Rattle.std.proofs.Common.{◌≡◌, ℕ, ◌+◌, ◌≤◌, refl, arith}
+use Rattle.std.proofs.Common.{◌≡◌, ℕ, ◌+◌, ◌≤◌, refl, is_some, arith}
 use Rattle.words.specs.Loops.{each}
 use Rattle.offsets.specs.declared.offsets.Offsets.{Offsets}
 use Rattle.offsets.specs.Offsets.{words_in}
 use Rattle.offsets.proofs.OwnedWords.{words_fit}
+use Rattle.output_words.specs.StartWords.{words_of}
 use Rattle.sums.specs.Walk.{steps, over}
 use Rattle.outputs.proofs.Blocks.{steps_first, leapt, block_clear}
 use Rattle.four_lanes.specs.FourLanes.{of_run}
@@ -62,8 +63,8 @@ loop-v-preserved c =
           (leapt next.second r.step l.at1 l.v 64 (l.invariant.at 1) c.times-leap.ensures c.plus-at1.ensures)
           (leapt next.third r.step l.at2 l.v 64 (l.invariant.at 2) c.times-leap.ensures c.plus-at2.ensures)
           (leapt next.fourth r.step l.at3 l.v 64 (l.invariant.at 3) c.times-leap.ensures c.plus-at3.ensures);
-      d = four_turn (begins_of r next) (of_run l.at0 l.at1 l.at2 l.at3) r.step l.v l.invariant.at x.named x.alpha x.beta (over c.args.depth.now.walk)
-          x.a.now x.b.now x.c.now c.min.result (fewer (omega (arith, e)) c.requires.1) c.args.d.now (omega (arith, e)) l.invariant.d c.fill_four_blocks.ensures;
+      d = four_turn (begins_of r next) (of_run l.at0 l.at1 l.at2 l.at3) r.step l.v l.invariant.at (is_some x.c) x.alpha x.beta (over c.args.depth.now.walk)
+          x.a.now x.b.now (words_of x.c) c.min.result (fewer (omega (arith, e)) c.requires.1) c.args.d.now (omega (arith, e)) l.invariant.d c.fill_four_blocks.ensures;
     }
 
 pub returns-2 : goal.returns-2
@@ -72,5 +73,5 @@ returns-2 c =
     let r = c.args.run in
     let l = c.loop-v in
     let e = c.min.ensures in
-    four_turn (begins_of r c.args.next) (of_run l.at0 l.at1 l.at2 l.at3) r.step l.v l.invariant.at x.named x.alpha x.beta (over c.args.depth.now.walk)
-    x.a.now x.b.now x.c.now c.min.result (fewer (omega (arith, e)) c.requires.1) c.args.d.now (omega (arith, e)) l.invariant.d c.fill_four_blocks.ensures
+    four_turn (begins_of r c.args.next) (of_run l.at0 l.at1 l.at2 l.at3) r.step l.v l.invariant.at (is_some x.c) x.alpha x.beta (over c.args.depth.now.walk)
+    x.a.now x.b.now (words_of x.c) c.min.result (fewer (omega (arith, e)) c.requires.1) c.args.d.now (omega (arith, e)) l.invariant.d c.fill_four_blocks.ensures

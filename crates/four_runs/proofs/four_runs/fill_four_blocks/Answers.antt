@@ -5,10 +5,12 @@ use mathlib.Core.Bool.{Bool}
 use mathlib.Core.List.{List}
 use Prim.Native.Nat.{ℕ, ◌≤◌}
 use lib.ListN.{replicate}
+use Rattle.std.specs.Prelude.{is_some}
 use Rattle.words.specs.Loops.{each, Within}
 use Rattle.limits.specs.Limits.{block_limit}
 use Rattle.groups.specs.Groups.{Label}
 use Rattle.offsets.specs.declared.offsets.Offsets.{Offsets}
+use Rattle.output_words.specs.StartWords.{words_of}
 use Rattle.sums.specs.Walk.{steps, sum_from, over}
 use Rattle.side_sums.specs.SideSums.{Added}
 use Rattle.side_sums.proofs.GroupSums.{total}
@@ -57,8 +59,8 @@ returns c =
     let block = c.args.block in
     let next = c.args.next in
     let e = c.four_sums.ensures in
-    one_more x.named x.alpha x.beta (over c.args.depth.now.walk) x.a.now x.b.now x.c.now block.step c.requires.1 next.fourth e.3
-    (one_more x.named x.alpha x.beta (over c.args.depth.now.walk) x.a.now x.b.now x.c.now block.step c.requires.1 next.third e.2
-    (one_more x.named x.alpha x.beta (over c.args.depth.now.walk) x.a.now x.b.now x.c.now block.step c.requires.1 next.second e.1
-    (one_more x.named x.alpha x.beta (over c.args.depth.now.walk) x.a.now x.b.now x.c.now block.step c.requires.1 block.from e.0 refl c.store_run.ensures)
+    one_more (is_some x.c) x.alpha x.beta (over c.args.depth.now.walk) x.a.now x.b.now (words_of x.c) block.step c.requires.1 next.fourth e.3
+    (one_more (is_some x.c) x.alpha x.beta (over c.args.depth.now.walk) x.a.now x.b.now (words_of x.c) block.step c.requires.1 next.third e.2
+    (one_more (is_some x.c) x.alpha x.beta (over c.args.depth.now.walk) x.a.now x.b.now (words_of x.c) block.step c.requires.1 next.second e.1
+    (one_more (is_some x.c) x.alpha x.beta (over c.args.depth.now.walk) x.a.now x.b.now (words_of x.c) block.step c.requires.1 block.from e.0 refl c.store_run.ensures)
     c.store_run-2.ensures) c.store_run-3.ensures) c.store_run-4.ensures

@@ -9,5 +9,5 @@ returns c =
     let x = c.args.x in
     record {
       labels =
-          kept_group x c.requires (λ o. (labelled_in x o).letters) (λ o. (c.requires.each o).spells) c.sets_of.result c.sets_of.ensures;
+          kept_group x (λ o. (labelled_in x o).letters) (λ o. (labelled_in x o).lettered.spells) c.sets_of.result c.sets_of.ensures;
     }

@@ -1,7 +1,7 @@
 -- `letter_rows` meets its contract. The invariant: the words are those that the letters of the first i row counts leave, each put where the code's sum
 -- of address words says, which is the plan's place.
 -- Assumes nothing.
-use Rattle.std.proofs.Common.{◌∙◌, arith, length-set}
+use Rattle.std.proofs.Common.{refl, ◌∙◌, arith, length-set}
 use Rattle.groups.specs.Groups.{batch, row as rowGroup, column}
 use Rattle.tiles.specs.Grid.{cut_in}
 use Rattle.letters.proofs.LetterLoops.{turns_none, turns_next, turns_all, grid_sizes, plan_place, code_place, row_next, rows_lettered}
@@ -23,19 +23,18 @@ pub bounds-out-at : goal.bounds-out-at
 bounds-out-at c =
     let q = c.requires in
     let b = q.1.inside _ c.loop-i.i _ q.2 (omega arith) q.3 in
-    let e = code_place _ _ c.loop-i.i c.offset_in.ensures c.wrapping_add_u64-at.ensures.value
-    ∙ plan_place c.args.p c.args.h c.args.j c.offset_in-at_column.ensures c.at_batch.ensures c.wrapping_add_u64-from.ensures.value c.loop-i.i in
+    let e = code_place _ _ c.loop-i.i c.offset_in.ensures refl
+    ∙ plan_place c.args.p.now c.args.h c.args.j c.offset_in-at_column.ensures c.at_batch.ensures refl c.loop-i.i in
     rw (e, c.loop-i.invariant.kept) b
 
 pub loop-i-preserved : goal.loop-i-preserved
 loop-i-preserved c =
-    let from = c.wrapping_add_u64-from.result in
-    let place = code_place _ from c.loop-i.i c.offset_in.ensures c.wrapping_add_u64-at.ensures.value in
-    turns_next c.loop-i.invariant (simp length-set) (row_next _ _ _ _ _ from c.loop-i.i _ place c.letter_of.ensures c.state.ensures)
+    let place = code_place _ _ c.loop-i.i c.offset_in.ensures refl in
+    turns_next c.loop-i.invariant (simp length-set) (row_next _ _ _ _ _ _ c.loop-i.i _ place c.letter_of.ensures c.state.ensures)
 
 pub returns : goal.returns
 returns c =
     let x = c.args in
     turns_all c.loop-i.invariant (omega arith)
-    ∙ rows_lettered x.p (cut_in x.g) x.t x.h x.j c.wrapping_add_u64-from.result
-    (plan_place x.p x.h x.j c.offset_in-at_column.ensures c.at_batch.ensures c.wrapping_add_u64-from.ensures.value) _
+    ∙ rows_lettered x.p.now (cut_in x.g) x.t x.h x.j _
+    (plan_place x.p.now x.h x.j c.offset_in-at_column.ensures c.at_batch.ensures refl) _

@@ -6,6 +6,7 @@ use mathlib.Core.Path.{◌≡◌, refl, sym, ap, ◌∙◌, subst}
 use mathlib.Core.Bool.{Bool, true, false, not, ◌&&◌, true≢false}
 use Prim.Native.Nat.{ℕ, ◌-◌, ◌*◌, ◌≤◌}
 use native.Mathlib.Omega.{arith}
+use Rattle.std.specs.Prelude.{is_some}
 use Rattle.contraction.specs.declared.contraction.Operand.TheVariants.{D}
 use Rattle.plan.specs.declared.plan.Plan.{Plan}
 use Rattle.tiles.specs.Cut.{Cut}
@@ -15,7 +16,7 @@ use Rattle.tile_blocks.specs.Planned.{Clear}
 use Rattle.tile_blocks.specs.Side.{left, right}
 use Rattle.tile_blocks.proofs.TileParts.{tile_begins}
 use Rattle.tile_packs.specs.TilePacks.{packs, renewed}
-use Rattle.phases.specs.Phases.{OutputClear, begun}
+use Rattle.phases.specs.Phases.{OutputClear, words_of_c, begun}
 use Rattle.thin_tile.specs.ThinTile.{TileClear, tile_added}
 use Rattle.one_tile.specs.HeldPacks.{HeldAfter}
 use Rattle.one_tile.proofs.HeldBlocks.{some_rows, held_after}
@@ -65,7 +66,7 @@ returns-then-thin_tile c =
     let t = c.tile.ensures in (
       tile_numbered p t k.a.now k.b.now k.alpha k.beta _
           (c.if-thin_tile.ensures ∙ ap (tile_added p (cut_in k.grid.now) c.tile.result k.alpha k.beta k.a.now k.b.now) c.start_from_c.ensures)
-          ∙ tile_started p t q.1 k.alpha k.beta k.a.now k.b.now k.c.now c.args.d.now q.2.places k.named,
+          ∙ tile_started p t q.1 k.alpha k.beta k.a.now k.b.now (words_of_c k.c) c.args.d.now q.2.places (is_some k.c),
       record { held = λ e. absurd (true≢false (sym e)); same = λ e. refl; end = λ e. absurd (not_last c.is_thin.result c.args.last c.if-thin.true e) },
     )
 
@@ -104,13 +105,13 @@ returns c =
     let e = c.renew_b.ensures ∙ ap (renewed p G x s.held k.b.now) c.pack_a.ensures in
     let h = subst (HeldAfter p G k.a.now k.b.now s.n s.work.now) (sym e)
     (held_after p G k.a.now k.b.now t (some_rows G q.1) s.held s.work.now q.3 q.4) in
-    let d : c.else-thin.d ≡ begun p G x k.named k.c.now s.d.now =
+    let d : c.else-thin.d ≡ begun p G x (is_some k.c) (words_of_c k.c) s.d.now =
     elim c.else-thin.branch [
       | else-thin-via-then-thin+else-thin_tile w ↦ w.d-is ∙ w.if-thin_tile.ensures ∙ c.start_from_c.ensures
       | else-thin-via-else-thin w ↦ w.d-is ∙ c.start_from_c.ensures
     ] in (
       tile_stepped p t k.a.now k.b.now h.blocks c.multiply_into_d.ensures
           ∙ ap (tile_step _ _) d
-          ∙ tile_started p t q.1 k.alpha k.beta k.a.now k.b.now k.c.now s.d.now q.2.places k.named,
+          ∙ tile_started p t q.1 k.alpha k.beta k.a.now k.b.now (words_of_c k.c) s.d.now q.2.places (is_some k.c),
       record { held = λ z. h; same = λ z. absurd (true≢false z); end = λ z. refl },
     )

@@ -7,10 +7,10 @@ use Rattle.words.specs.Loops.{each}
 use Rattle.groups.specs.Held.{labels_in}
 use Rattle.offsets.specs.Offsets.{words_in}
 use Rattle.sums.specs.Walk.{steps}
-use Rattle.output_run.specs.FilledOutput.{filled}
+use Rattle.output_run.specs.FilledOutput.{filled_of}
 use Rattle.output_run.proofs.output_run.fill_run.Given as goal
 
 abbrev pub invariant-loop-v : goal.invariant-loop-v
 invariant-loop-v l =
     (length l.d ≡ length l.initial.d) × (words_in l.at ≡ steps l.initial.at l.run.step l._v)
-    × (l.d ≡ each l._v (λ n. filled l.x.named l.x.alpha l.x.beta (labels_in l.depth.walk.group) l.x.a.now l.x.b.now l.x.c.now (steps l.initial.at l.run.step n)) l.initial.d)
+    × (l.d ≡ each l._v (λ n. filled_of l.x (labels_in l.depth.walk.group) (steps l.initial.at l.run.step n)) l.initial.d)

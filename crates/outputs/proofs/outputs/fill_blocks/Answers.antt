@@ -5,7 +5,7 @@ use Rattle.std.proofs.Common.{refl, arith}
 use Rattle.words.specs.Loops.{each}
 use Rattle.offsets.proofs.OwnedWords.{words_fit}
 use Rattle.sums.specs.Walk.{over}
-use Rattle.output_run.specs.FilledOutput.{filled}
+use Rattle.output_run.specs.FilledOutput.{filled_of}
 use Rattle.outputs.proofs.Blocks.{steps_first, leapt, block_clear, block_turn}
 use Rattle.outputs.proofs.outputs.fill_blocks.Goals as goal
 
@@ -14,6 +14,7 @@ unfolding each
 loop-v-init c =
     record {
       within = omega arith;
+      rest = omega arith;
       at = steps_first c.args.run.from c.args.run.step (words_fit c.args.run.from.words _ c.well_formed.1.1.0.1.1.0.1.1.0.1.1);
       d = refl;
     }
@@ -24,9 +25,9 @@ fill_block-requires c =
     let r = c.args.run in
     let e = c.min.ensures in
     let w = c.width_of-width.ensures in (
-      omega (arith, e, w.0, c.loop-v-test.true),
+      omega (arith, e, w.0, l.invariant.rest, c.loop-v-test.true),
       omega (arith, e, w.1),
-      block_clear r.from r.step l.at l.v l.invariant.at c.min.result r.len (omega (arith, e, c.loop-v-test.true)) (rw l.auto.d c.requires),
+      block_clear r.from r.step l.at l._v l.invariant.at c.min.result r.len (omega (arith, e, l.invariant.rest, c.loop-v-test.true)) (rw l.auto.d c.requires),
     )
 
 pub loop-v-preserved : goal.loop-v-preserved
@@ -36,9 +37,10 @@ loop-v-preserved c =
     let l = c.loop-v in
     record {
       within = omega arith;
-      at = leapt r.from r.step l.at l.v c.width_of-width.result l.invariant.at c.times-leap.ensures c.plus-at.ensures;
-      d = block_turn r.from r.step l.at l.v l.invariant.at (filled x.named x.alpha x.beta (over c.args.depth.now.walk) x.a.now x.b.now x.c.now) c.min.result c.args.d.now
-          (omega (arith, c.min.ensures)) l.invariant.d c.fill_block.ensures;
+      rest = omega (arith, c.min.ensures, l.invariant.rest);
+      at = leapt r.from r.step l.at l._v c.width_of-width.result l.invariant.at c.times-leap.ensures c.plus-at.ensures;
+      d = block_turn r.from r.step l.at l._v l.invariant.at (filled_of x (over c.args.depth.now.walk)) c.min.result c.args.d.now
+          (omega (arith, c.min.ensures, l.invariant.rest)) l.invariant.d c.fill_block.ensures;
     }
 
 pub returns-2 : goal.returns-2
@@ -46,5 +48,5 @@ returns-2 c =
     let x = c.args.x.now in
     let r = c.args.run in
     let l = c.loop-v in
-    block_turn r.from r.step l.at l.v l.invariant.at (filled x.named x.alpha x.beta (over c.args.depth.now.walk) x.a.now x.b.now x.c.now) c.min.result c.args.d.now
-    (omega (arith, c.min.ensures)) l.invariant.d c.fill_block.ensures
+    block_turn r.from r.step l.at l._v l.invariant.at (filled_of x (over c.args.depth.now.walk)) c.min.result c.args.d.now
+    (omega (arith, c.min.ensures, l.invariant.rest)) l.invariant.d c.fill_block.ensures

@@ -2,19 +2,23 @@
 -- filling D along them leaves the result.
 -- Assumes nothing.
 use mathlib.Core.Path.{◌≡◌, sym, ap, ◌∙◌}
-use mathlib.Core.Bool.{Bool}
+use mathlib.Core.Bool.{true}
+use mathlib.Core.List.{List}
 use Prim.Native.Nat.{ℕ, ◌≤◌}
-use Rattle.std.proofs.Common.{rules}
+use Rattle.std.proofs.Common.{refl, rules, Option, Some, None, is_some}
+use Rattle.std.specs.Option.{option_and}
+use Rattle.std.specs.Borrow.{Bor}
 use lib.ListN.{length}
 use Rattle.words.specs.Loops.{each}
 use Rattle.limits.specs.Limits.{labels_limit}
+use Rattle.layout.specs.declared.layout.Layout.{Layout}
 use Rattle.labels.specs.Labels.{labels}
 use Rattle.labels.specs.LetterSets.{has}
 use Rattle.contraction.specs.declared.contraction.Contraction.{Contraction}
 use Rattle.contraction.specs.declared.operands.Operands.{Operands}
 use Rattle.contraction.specs.Operands.{four, named, tensors, together}
 use Rattle.contraction.specs.declared.contraction.Operand.TheVariants.{A, B, C, D}
-use Rattle.contraction.specs.TensorAxes.{shape_of, Gathered, Ready}
+use Rattle.contraction.specs.TensorAxes.{shape_of, Ready}
 use Rattle.questions.proofs.Ready.{AllPassed, accepted_parts}
 use Rattle.groups.specs.declared.groups.Group.{Group}
 use Rattle.groups.specs.declared.groups.Sets.{Sets}
@@ -31,6 +35,7 @@ use Rattle.plan.specs.Plan.{Bases, OutputPlanned}
 use Rattle.plan.proofs.GroupsFoldable.{all_foldable, group_foldable, outputs_foldable, fold_foldable, fold_asks, fold_gives}
 use Rattle.sums.specs.declared.walk.Walk.{Walk}
 use Rattle.sums.specs.Walk.{places, over, Walks}
+use Rattle.output_words.specs.StartWords.{words_of}
 use Rattle.output_run.specs.FilledOutput.{filled}
 use Rattle.next_runs.specs.NextRuns.{Fillable}
 use Rattle.direct.proofs.DirectResult.{clear, distinct, filled_result}
@@ -38,13 +43,19 @@ use Rattle.answers.specs.PlainAnswer.{plain_done, plain_call_of}
 use Rattle.plain.proofs.PlainAnswered.{call_refused, call_done}
 use Rattle.plain.proofs.call.contract.Goals as goal
 
+-- the words that the loops have for C: C's where the contraction names it
+handed : (o : Option Layout) (c : Bor (List ℕ)) {x : Option (Bor (List ℕ))} → x ≡ option_and o (Some c)
+    → (is_some x ≡ is_some o) × (is_some o ≡ true → words_of x ≡ c.now)
+handed None c e = rw e (refl, λ t. cc)
+handed (Some l) c e = rw e (refl, λ t. refl)
+
 module _ (k : Contraction) (w : Slices) (e : first_no k w ≡ 0) where
   passed : AllPassed (tensors k) (lengths_in k w)
   passed = accepted_parts (tensors k) (lengths_in k w) e
 
   -- what `folded` asks of a set of letters
   module _ (x : Operands) (r : Ready k x) where
-    fold_needs : (set : ℕ) → Gathered x × (length (labels (together (shape_of x))) ≤ labels_limit) × Foldable (labels_where (shape_of x) (has set))
+    fold_needs : (set : ℕ) → (length (labels (together (shape_of x))) ≤ labels_limit) × Foldable (labels_where (shape_of x) (has set))
     fold_needs set = fold_asks k x r (all_foldable (tensors k) (lengths_in k w) passed) set
 
     -- what it gives of D's letters and of the depth group's
@@ -55,7 +66,7 @@ module _ (k : Contraction) (w : Slices) (e : first_no k w ≡ 0) where
     walked s h output deep base o d b =
         let gives = fold_gives k x r (all_foldable (tensors k) (lengths_in k w) passed) in
         record {
-          output = gives x.d.letters.set outputs (kept_output x r.gathered x.d.letters (r.gathered.each D).spells) (labels_in output) o.0;
+          output = gives x.d.letters.set outputs (kept_output x x.d.letters x.d.lettered.spells) (labels_in output) o.0;
           few_output = o.1;
           depth = gives s.depth (λ s. group s depth) (h.labels depth) (labels_in deep) d.0;
           few_depth = d.1;
@@ -71,18 +82,19 @@ module _ (k : Contraction) (w : Slices) (e : first_no k w ≡ 0) where
     depth_walks = (q.few_depth, rw q.depth (fold_foldable _ (group_foldable (tensors k) _ passed depth)))
 
     -- what `fill` asks, and what it leaves
-    module _ (outer inner : Walk) (ko : Walks (labels_in output) outer) (ki : Walks (labels_in deep) inner) {b : Bool} (is : b ≡ named k) where
-      fill_asks : Fillable b base outer inner (w A) (w B) (w C) (length (w D))
+    module _ (outer inner : Walk) (ko : Walks (labels_in output) outer) (ki : Walks (labels_in deep) inner) (x : Option (Bor (List ℕ)))
+        (has_c : (is_some x ≡ named k) × (named k ≡ true → words_of x ≡ w C)) where
+      fill_asks : Fillable (is_some x) base outer inner (w A) (w B) (words_of x) (length (w D))
       fill_asks =
           record {
             outputs = rw ko.labels ko;
             depths = rw ki.labels ki;
-            clear = rw (is, ko.labels, q.output, ki.labels, q.depth) (clear k w passed (words_in base) q.bases);
-            distinct = rw (ko.labels, q.output) (distinct k w passed (words_in base) q.bases);
+            clear = rw (has_c.0, ko.labels, q.output, ki.labels, q.depth) (clear k w passed (words_in base) q.bases (words_of x) has_c.1);
+            distinct = rw (ko.labels, q.output) (distinct k w passed (words_in base) q.bases (words_of x) has_c.1);
           }
 
-      fill_leaves : each (size (over outer)) (λ m. filled b k.alpha k.beta (over inner) (w A) (w B) (w C) (places base (over outer) m)) (w D) ≡ result k w
-      fill_leaves = rw (is, ko.labels, q.output, ki.labels, q.depth) (filled_result k w passed (words_in base) q.bases)
+      fill_leaves : each (size (over outer)) (λ m. filled (is_some x) k.alpha k.beta (over inner) (w A) (w B) (words_of x) (places base (over outer) m)) (w D) ≡ result k w
+      fill_leaves = rw (has_c.0, ko.labels, q.output, ki.labels, q.depth) (filled_result k w passed (words_in base) q.bases (words_of x) has_c.1)
 
 pub returns-in_err-lists : goal.returns-in_err-lists
 returns-in_err-lists c =
@@ -131,7 +143,7 @@ fill-requires c =
     let q =
     walked k w e _ c.in_ok-lists.ensures.lists c.groups_of-sets.result c.groups_of-sets.ensures c.folded-output.result c.folded-depth.result
     c.base_of.result c.folded-output.ensures c.folded-depth.ensures c.base_of.ensures in
-    fill_asks k w e _ _ _ q c.walk_of.result c.walk_of-2.result c.walk_of.ensures c.walk_of-2.ensures c.is_some.ensures
+    fill_asks k w e _ _ _ q c.walk_of.result c.walk_of-2.result c.walk_of.ensures c.walk_of-2.ensures c.and.result (handed k.c c.args.c c.and.ensures)
 
 pub returns : goal.returns
 returns c =
@@ -141,5 +153,5 @@ returns c =
     let q =
     walked k w e _ c.in_ok-lists.ensures.lists c.groups_of-sets.result c.groups_of-sets.ensures c.folded-output.result c.folded-depth.result
     c.base_of.result c.folded-output.ensures c.folded-depth.ensures c.base_of.ensures in
-    ap (plain_call_of plain_done) (c.fill.ensures ∙ fill_leaves k w e _ _ _ q c.walk_of.result c.walk_of-2.result c.walk_of.ensures c.walk_of-2.ensures c.is_some.ensures)
+    ap (plain_call_of plain_done) (c.fill.ensures ∙ fill_leaves k w e _ _ _ q c.walk_of.result c.walk_of-2.result c.walk_of.ensures c.walk_of-2.ensures c.and.result (handed k.c c.args.c c.and.ensures))
     ∙ call_done k w e

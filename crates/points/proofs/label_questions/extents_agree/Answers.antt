@@ -14,18 +14,6 @@ use Rattle.contraction.specs.TensorAxes.{shape_of}
 use Rattle.points.specs.LabelQuestions.{extents_agree}
 use Rattle.points.proofs.label_questions.extents_agree.Goals as goal
 
-pub extents_as-d-requires : goal.extents_as-d-requires
-extents_as-d-requires c = (c.requires, (c.requires.each D).checked.few)
-
-pub extents_as-requires : goal.extents_as-requires
-extents_as-requires c = let p = c.requires in (p, (p.each A).checked.few)
-
-pub extents_as-requires-2 : goal.extents_as-requires-2
-extents_as-requires-2 c = let p = c.requires in (p, (p.each B).checked.few)
-
-pub extents_as_c-requires : goal.extents_as_c-requires
-extents_as_c-requires c = let p = c.requires in (p, c.extents_as-d.ensures)
-
 pub returns : goal.returns
 unfolding extents_agree together
 returns c =

@@ -73,4 +73,4 @@ unfolding points_fit points
 returns c =
     let l = c.loop-c in
     let letters = c.as_slice-letters.result.now in
-    rw (l.invariant, take_all l.c-index letters (omega arith), c.as_slice-letters.ensures, c.requires.all.spells) (cut_test product_limit (points (together (shape_of c.args.x))))
+    rw (l.invariant, take_all l.c-index letters (omega arith), c.as_slice-letters.ensures, c.args.x.gathered.all.spells) (cut_test product_limit (points (together (shape_of c.args.x))))

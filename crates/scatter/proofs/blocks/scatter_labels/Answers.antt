@@ -57,20 +57,20 @@ module _ (g : List Label) {len : ℕ} (e : len ≡ (first_label g).extent) where
       record { last = λ p. (first + k, sym (add_assoc first k 1), rw q s) }
 
 -- where the two arms meet, `at` is the word of count k
-here : (c : Joined-left-eq0) → AtCount c.args.o c.args.from (labels_in c.args.g) c.of-label.result.len (c.args.first + c.loop-k.k) c.if-left-eq0.at c.if-left-eq0.left
+here : (c : Joined-left-eq0) → AtCount c.args.o c.args.from (labels_in c.args.g.now) c.of-label.result.len (c.args.first + c.loop-k.k) c.if-left-eq0.at c.if-left-eq0.left
 here c =
     let f = c.of-label.ensures in
-    let n : c.args.first + c.loop-k.k < size (labels_in c.args.g) = omega (arith, length-take c.args.count c.args.out.now) in
+    let n : c.args.first + c.loop-k.k < size (labels_in c.args.g.now) = omega (arith, length-take c.args.count c.args.out.now) in
     elim c.if-left-eq0.branch [
-      | then-left-eq0 w ↦ rw (w.at-is, w.left-is) (anew (labels_in c.args.g) f.len n w.offset_in.ensures refl)
+      | then-left-eq0 w ↦ rw (w.at-is, w.left-is) (anew (labels_in c.args.g.now) f.len n w.offset_in.ensures refl)
       | else-left-eq0 w ↦
           rw (w.at-is, w.left-is)
-          (along (labels_in c.args.g) f.len _ (c.of-step.ensures ∙ f.step c.args.o) c.loop-k.invariant.1 (omega (arith, w.if-left-eq0.false)) refl)
+          (along (labels_in c.args.g.now) f.len _ (c.of-step.ensures ∙ f.step c.args.o) c.loop-k.invariant.1 (omega (arith, w.if-left-eq0.false)) refl)
     ]
 
 left_here : (c : Joined-left-eq0) → 0 < c.if-left-eq0.left
 left_here c =
-    some_left (labels_in c.args.g) c.of-label.ensures.len (omega (arith, length-take c.args.count c.args.out.now)) (here c)
+    some_left (labels_in c.args.g.now) c.of-label.ensures.len (omega (arith, length-take c.args.count c.args.out.now)) (here c)
 
 pub of-label-requires : goal.of-label-requires
 of-label-requires c = c.requires.0
@@ -78,18 +78,18 @@ of-label-requires c = c.requires.0
 pub loop-k-init : goal.loop-k-init
 loop-k-init c =
     let s = c.args in
-    (sym (front_none (λ i. word_at s.o s.from (labels_in s.g) (s.first + i)) (take s.count s.out.now)), record { last = λ h. absurd (omega arith) })
+    (sym (front_none (λ i. word_at s.o s.from (labels_in s.g.now) (s.first + i)) (take s.count s.out.now)), record { last = λ h. absurd (omega arith) })
 
 pub offset_in-requires : goal.offset_in-requires
 offset_in-requires c = (omega arith, omega (arith, length-take c.args.count c.args.out.now))
 
 pub nonzero_rem-left : goal.nonzero_rem-left
-nonzero_rem-left c = long (labels_in c.args.g) c.of-label.ensures.len {n = c.args.first + c.loop-k.k} (omega (arith, length-take c.args.count c.args.out.now))
+nonzero_rem-left c = long (labels_in c.args.g.now) c.of-label.ensures.len {n = c.args.first + c.loop-k.k} (omega (arith, length-take c.args.count c.args.out.now))
 
 pub overflow_sub-left : goal.overflow_sub-left
 overflow_sub-left c =
     let n = c.args.first + c.loop-k.k in
-    let some : 0 < c.of-label.result.len = long (labels_in c.args.g) c.of-label.ensures.len {n = n} (omega (arith, length-take c.args.count c.args.out.now)) in
+    let some : 0 < c.of-label.result.len = long (labels_in c.args.g.now) c.of-label.ensures.len {n = n} (omega (arith, length-take c.args.count c.args.out.now)) in
     omega (arith, mod-lt n some)
 
 pub overflow_sub-left-in-loop-k : goal.overflow_sub-left-in-loop-k
@@ -100,12 +100,12 @@ loop-k-preserved c =
     let l = c.loop-k in
     let s = c.args in (
       ap (λ (x : List ℕ). set x l.k c.if-left-eq0.at) l.invariant.0
-          ∙ front_set (λ i. word_at s.o s.from (labels_in s.g) (s.first + i)) (take s.count s.out.now) l.k c.if-left-eq0.at (omega arith) (here c.before).word,
-      passed (labels_in s.g) c.of-label.ensures.len s.first l.k (left_here c.before) (here c.before),
+          ∙ front_set (λ i. word_at s.o s.from (labels_in s.g.now) (s.first + i)) (take s.count s.out.now) l.k c.if-left-eq0.at (omega arith) (here c.before).word,
+      passed (labels_in s.g.now) c.of-label.ensures.len s.first l.k (left_here c.before) (here c.before),
     )
 
 pub returns : goal.returns
 returns c =
     let s = c.args in
-    front_whole s.count (λ i. word_at s.o s.from (labels_in s.g) (s.first + i)) s.out.now c.requires.3
+    front_whole s.count (λ i. word_at s.o s.from (labels_in s.g.now) (s.first + i)) s.out.now c.requires.3
     (omega (arith, length-take s.count s.out.now)) c.loop-k.invariant.0

@@ -8,5 +8,5 @@ pub returns-then-g-lt2 : goal.returns-then-g-lt2
 returns-then-g-lt2 c =
     let x = c.args in
     c.step_vector.ensures
-    ∙ stepped_vector _ x.g (omega arith) c.first_step-step.ensures x.from x.first x.count x.out.now
+    ∙ stepped_vector _ x.g.now (omega arith) c.first_step-step.ensures x.from x.first x.count x.out.now
     c.scale.ensures refl c.requires.2

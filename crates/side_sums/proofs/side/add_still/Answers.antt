@@ -1,6 +1,6 @@
 -- `add_still` meets its contract. The invariant: the address words are v steps from the first, and each sum has grown by the products of v depth counts.
 -- Assumes nothing.
-use Rattle.std.proofs.Common.{◌<◌, length, arith}
+use Rattle.std.proofs.Common.{◌<◌, refl, length, arith}
 use Rattle.words.specs.Stepped.{stepped}
 use Rattle.words.proofs.Modular.{step_none, step_more}
 use Rattle.side_sums.specs.SideSums.{side_run}
@@ -36,8 +36,8 @@ pub loop-v-preserved : goal.loop-v-preserved
 loop-v-preserved c =
     let x = c.args in
     let l = c.loop-v in (
-      step_more x.x.now.from x.x.now.step l._v l.invariant.0 c.wrapping_add_u64-i.ensures.value,
-      step_more x.y.now.from x.y.now.step l._v l.invariant.1 c.wrapping_add_u64-j.ensures.value,
+      step_more x.x.now.from x.x.now.step l._v l.invariant.0 refl,
+      step_more x.y.now.from x.y.now.step l._v l.invariant.1 refl,
       run_turn x.x.now.words.now x.y.now.words.now (side_run x.x.now.from x.x.now.along x.x.now.step) (λ r. stepped x.y.now.from x.y.now.step) x.n l._v
           _ c.requires.1 c.requires.2 l.invariant.2 c.add_times.ensures
           (λ r h. rw (crossed x.x.now.from x.x.now.step x.x.now.along l._v r l.invariant.0, l.invariant.1)),

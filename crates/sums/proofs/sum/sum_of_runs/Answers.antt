@@ -66,7 +66,7 @@ loop-m-preserved c =
       c.advance-at.auto.digits ∙ l.invariant.0,
       turn c.args.depth.now.walks h (l.invariant.2 h) c.args.a.now c.args.b.now l.invariant.1
           (rw (c.of-i.ensures, c.of-j.ensures, c.of-step_a.ensures, c.of-step_b.ensures) at c.run_sum-run.ensures)
-          c.wrapping_add_u32-sum.ensures.value,
+          refl,
       λ i. next_run _ _ c.args.depth.now.walks c.args.depth.now.carried c.advance-at.ensures (l.invariant.2 h) i,
     )
 

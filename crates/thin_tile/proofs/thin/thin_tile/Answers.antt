@@ -1,7 +1,7 @@
 -- `thin_tile` meets its contract: the blocks lie where the tile stands, so that each place that the lines read or write is inside, and they leave what the tile does,
 -- the few columns one after the other, or else the few rows.
 -- Assumes nothing.
-use mathlib.Core.Path.{◌≡◌, refl}
+use mathlib.Core.Path.{◌≡◌}
 use mathlib.Core.Bool.{Bool, true, false, cond}
 use mathlib.Core.List.{List}
 use Prim.Native.Nat.{ℕ}
@@ -34,7 +34,7 @@ returns-then-cols-le4 c =
     either c.thin_lines.result _ _ _ c.thin_lines.ensures
     (rows_added_lem s.t.plan.now (cut_in s.t.grid.now) s.t.at c.rows-rows.ensures c.columns-cols.ensures c.rows-down.ensures c.columns-across.ensures
     c.start-to.ensures c.starts_in-in_a.ensures c.starts_in-in_b.ensures c.filled-deep.ensures
-    s.alpha s.beta refl s.a.now s.b.now s.d.now)
+    s.alpha s.beta c.then_some.ensures s.a.now s.b.now s.d.now)
 
 pub returns-else-cols-le4 : goal.returns-else-cols-le4
 returns-else-cols-le4 c =
@@ -42,4 +42,4 @@ returns-else-cols-le4 c =
     either c.thin_lines-else-cols-le4.result _ _ _ c.thin_lines-else-cols-le4.ensures
     (columns_added s.t.plan.now (cut_in s.t.grid.now) s.t.at c.rows-rows.ensures c.columns-cols.ensures c.rows-down.ensures c.columns-across.ensures
     c.start-to.ensures c.starts_in-in_a.ensures c.starts_in-in_b.ensures c.filled-deep.ensures
-    s.alpha s.beta refl s.a.now s.b.now s.d.now c.requires.0.begins c.requires.1)
+    s.alpha s.beta c.then_some.ensures s.a.now s.b.now s.d.now c.requires.0.begins c.requires.1)

@@ -39,14 +39,14 @@ returns-then-held-t c =
     let s = c.args in
     left_there s.t.plan.now (cut_in s.t.grid.now) s.t.at s.held s.b.now s.work.now c.if-held-t.true refl
 
-pub pack_b-requires : goal.pack_b-requires
-pack_b-requires c =
+pub pack_side-requires : goal.pack_side-requires
+pack_side-requires c =
     let q = c.requires in
-    (q.0, record { reads = q.2.reads; room = part_room _ c.args.work.now q.2.room })
+    (q.0, refl, c.columns-block.ensures, refl, record { reads = q.2.reads; room = part_room _ c.args.work.now q.2.room })
 
 pub returns : goal.returns
 returns c =
     let a = c.args in
     let t = a.t in
     packed_anew t.plan.now (cut_in t.grid.now) t.at a.held a.b.now a.work.now c.if-held-t.false
-    (in_part t.plan.now (cut_in t.grid.now) t.at a.held a.b.now a.work.now c.requires.1 c.pack_b.ensures)
+    (in_part t.plan.now (cut_in t.grid.now) t.at a.held a.b.now a.work.now c.requires.1 c.pack_side.ensures)

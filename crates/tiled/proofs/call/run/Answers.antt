@@ -2,7 +2,7 @@
 -- that run leave what its setting says.
 -- Assumes nothing.
 use mathlib.Core.Path.{◌≡◌, refl, sym, ap, ◌∙◌}
-use mathlib.Core.Bool.{Bool}
+use mathlib.Core.Bool.{Bool, true, false, true≢false}
 use mathlib.Core.List.{List, ◌++◌}
 use Prim.Native.Nat.{ℕ, ◌+◌, ◌-◌, ◌*◌, ◌≤◌, min}
 use native.Mathlib.Nat.{mul_comm}
@@ -10,7 +10,9 @@ use native.Mathlib.Omega.{arith}
 use lib.Dec.{eqb}
 use lib.ListN.{length}
 use borrow.Author.Tests.{leb-true}
-use Rattle.std.specs.Prelude.{Result, IsErrAnd}
+use denote.Ref.{Bor}
+use Rattle.std.specs.Prelude.{Option, is_some, Result, IsErrAnd}
+use Rattle.std.specs.Bool.{then_some}
 use Rattle.refusals.specs.declared.refusal.Refusal.{Refusal}
 use Rattle.refusals.specs.Numbers.{number}
 use Rattle.refusals.proofs.Numbers.{not_0, errs}
@@ -28,11 +30,12 @@ use Rattle.tiles.specs.declared.grid.Sizes.{Sizes}
 use Rattle.tiles.specs.declared.grid.Grid.{Grid}
 use Rattle.tiles.specs.Cut.{Cut, total}
 use Rattle.tiles.specs.Grid.{cut_in}
-use Rattle.tiles.specs.Setting.{walk, tiles_from}
+use Rattle.tiles.specs.Setting.{Setting, walk, tiles_from}
 use Rattle.tiles.proofs.Visits.{tiles_below}
 use Rattle.tile_blocks.specs.ContractionInTiles.{cut_of, setting}
 use Rattle.tile_blocks.specs.Planned.{GridOf, Clear, read_in, plan_setting}
 use Rattle.tile_questions.specs.TileQuestions.{size_question, room_question, done_question}
+use Rattle.phases.specs.Phases.{words_of_c}
 use Rattle.tiling.specs.Work.{packed_last, work_after}
 use Rattle.answers.specs.declared.tile_answer.Ran.{Ran}
 use Rattle.answers.specs.TileAnswer.{ran, tile_refused, tile_answer, tile_call_of}
@@ -43,6 +46,19 @@ use Rattle.accept.proofs.Soundness.{clear}
 use Rattle.tiled.proofs.TileAnswered.{tile_early, tile_late, tile_ran}
 use Rattle.tiled.proofs.Agrees.{walk_agrees, work_agrees}
 use Rattle.tiled.proofs.call.run.Goals as goal
+
+-- the words of C are lent where it is named; else nothing of them is read
+module _ (lent : Bor (List ℕ)) where
+  lent_clear : (named : Bool) {p : Plan} {G : Cut} {a b d : ℕ} → Clear p G named a b (length lent.now) d
+      → Clear p G (is_some (then_some named lent)) a b (length (words_of_c (then_some named lent))) d
+  lent_clear true k = k
+  lent_clear false k = record { in_side = k.in_side; in_c = λ e. absurd (true≢false (sym e)); places = k.places }
+
+  lent_setting : (named : Bool) (p : Plan) (G : Cut) (alpha beta : ℕ) (a b : List ℕ)
+      → plan_setting p G (is_some (then_some named lent)) alpha beta a b (words_of_c (then_some named lent)) ≡ plan_setting p G named alpha beta a b lent.now
+  unfolding plan_setting
+  lent_setting true p G alpha beta a b = refl
+  lent_setting false p G alpha beta a b = refl
 
 tiles_counted : (t n : ℕ) → length (tiles_from t n) ≡ n
 unfolding tiles_from
@@ -76,21 +92,24 @@ module _ (c : Contraction) (z : Sizes) (w : Slices) {n : ℕ} (e : n ≡ refusal
     t_below = rw o.0.counted.total room_and_count.1
 
     -- what `run_tiles` asks for a count of tiles, and what it leaves
-    module _ (budget count : ℕ) (m : count ≡ min budget (g.total - t)) (b : Bool) (is : b ≡ named c) where
+    module _ (budget count : ℕ) (m : count ≡ min budget (g.total - t)) (lent : Bor (List ℕ)) (words_c : lent.now ≡ w C)
+        {taken : Option (Bor (List ℕ))} (is : taken ≡ then_some (named c) lent) where
       in_total : t + count ≤ total (cut_in g)
       in_total = omega (arith, m, t_below, o.0.counted.total)
 
-      run_asks : GridOf p g × (t + count ≤ total (cut_in g)) × Clear p (cut_in g) b (length (w A)) (length (w B)) (length (w C)) (length (w D))
+      run_asks : GridOf p g × (t + count ≤ total (cut_in g)) × Clear p (cut_in g) (is_some taken) (length (w A)) (length (w B)) (length (words_of_c taken)) (length (w D))
           × (g.sizes.rows * g.sizes.depth + g.sizes.cols * g.sizes.depth ≤ length work)
       run_asks = (
         o.0,
         in_total,
-        rw (is, cut) (clear c z w (accepted c z w (none_refused c z w e y)).0 (accepted c z w (none_refused c z w e y)).1 p q),
+        rw (is, cut)
+            (lent_clear lent (named c)
+            (rw words_c (clear c z w (accepted c z w (none_refused c z w e y)).0 (accepted c z w (none_refused c z w e y)).1 p q))),
         rw (mul_comm g.sizes.cols g.sizes.depth) room_and_count.0,
       )
 
       all_ran : {r : ℕ} {d' work' : List ℕ} → r ≡ t + length (tiles_from t count)
-          → d' ≡ walk (plan_setting p (cut_in g) b c.alpha c.beta (w A) (w B) (w C)) (tiles_from t count) (w D)
+          → d' ≡ walk (plan_setting p (cut_in g) (is_some taken) c.alpha c.beta (w A) (w B) (words_of_c taken)) (tiles_from t count) (w D)
           → work' ≡ packed_last (cut_in g) (read_in p (w A) (w B)) (tiles_from t count) work
           → tile_call_of (ran r (eqb r g.total)) d' work' ≡ tile_call c z w work t budget
       unfolding ran_call
@@ -101,7 +120,9 @@ module _ (c : Contraction) (z : Sizes) (w : Slices) {n : ℕ} (e : n ≡ refusal
           let whole : g.total ≡ total (cut_of c z) = o.0.counted.total ∙ ap total cut in
           let done : r ≡ t + count = er ∙ ap (λ (i : ℕ). t + i) (tiles_counted t count) in
           let words : d' ≡ walk (setting c z w) (tiles_from t count) (w D) =
-          ed ∙ ap (λ (f : Bool). walk (plan_setting p (cut_in g) f c.alpha c.beta (w A) (w B) (w C)) (tiles_from t count) (w D)) is
+          ed ∙ ap (λ (x : Option (Bor (List ℕ))). walk (plan_setting p (cut_in g) (is_some x) c.alpha c.beta (w A) (w B) (words_of_c x)) (tiles_from t count) (w D)) is
+          ∙ ap (λ (s : Setting). walk s (tiles_from t count) (w D)) (lent_setting lent (named c) p (cut_in g) c.alpha c.beta (w A) (w B))
+          ∙ ap (λ (l : List ℕ). walk (plan_setting p (cut_in g) (named c) c.alpha c.beta (w A) (w B) l) (tiles_from t count) (w D)) words_c
           ∙ ap (λ (G : Cut). walk (plan_setting p G (named c) c.alpha c.beta (w A) (w B) (w C)) (tiles_from t count) (w D)) cut ∙ walk_agrees c z w ok p q (tiles_from t count) below (w D) in
           let packs : work' ≡ work_after c z w (tiles_from t count) work =
           ew ∙ ap (λ (G : Cut). packed_last G (read_in p (w A) (w B)) (tiles_from t count) work) cut ∙ work_agrees c z w ok p q (tiles_from t count) below work in
@@ -142,7 +163,7 @@ run_tiles-t-requires c =
     let x = c.args in
     run_asks x.k x.z (four c.args.a.now c.args.b.now c.args.c.now c.args.d.now) r.ensures.number refl
     r.x.plan r.ensures.planned.plan r.x.grid r.ensures.planned.grid x.work.now x.done
-    c.in_ok-tile_refusal.ensures refl x.budget _ c.min-count.ensures _ c.is_some-named.ensures
+    c.in_ok-tile_refusal.ensures refl x.budget _ c.min-count.ensures x.c refl (c.then_some.ensures ∙ ap (λ (b : Bool). then_some b x.c) c.is_some.ensures)
 
 pub returns : goal.returns
 returns c =
@@ -150,5 +171,5 @@ returns c =
     let x = c.args in
     all_ran x.k x.z (four c.args.a.now c.args.b.now c.args.c.now c.args.d.now) r.ensures.number refl
     r.x.plan r.ensures.planned.plan r.x.grid r.ensures.planned.grid x.work.now x.done
-    c.in_ok-tile_refusal.ensures refl x.budget _ c.min-count.ensures _ c.is_some-named.ensures
+    c.in_ok-tile_refusal.ensures refl x.budget _ c.min-count.ensures x.c refl (c.then_some.ensures ∙ ap (λ (b : Bool). then_some b x.c) c.is_some.ensures)
     c.run_tiles-t.ensures.0 c.run_tiles-t.ensures.1 c.run_tiles-t.ensures.2

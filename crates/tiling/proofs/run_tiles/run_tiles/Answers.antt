@@ -56,7 +56,7 @@ returns-then-count-gt0 c =
     let l = c.loop-t in
     let e : l.t ≡ s.done + s.count = omega arith in
     let k : l.t - s.done ≡ s.count = omega (arith, e) in
-    let x : TileOf (cut_in s.g) (l.t - 1) c.tile.result = rw e c.tile.ensures in
+    let x : TileOf (cut_in s.k.grid.now) (l.t - 1) c.tile.result = rw e c.tile.ensures in
     (omega (arith, e, length_tabulate s.count (λ k. s.done + k)), rw k at l.invariant.words, ended _ _ _ _ _ _ _ _ _ _ _ _ l.invariant e e (omega arith) x c.pad_blocks.ensures)
 
 pub shape_of-d-else-count-gt0 : goal.shape_of-d-else-count-gt0

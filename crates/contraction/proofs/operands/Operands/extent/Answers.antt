@@ -7,9 +7,8 @@ use Rattle.std.specs.Prelude.{Option, None, Some, unwrap_or, MatchOption}
 use Rattle.layout.specs.declared.layout.Axis.{Axis}
 use Rattle.layout.specs.Listed.{listed}
 use Rattle.labels.specs.Labels.{extent_of}
-use Rattle.labels.specs.declared.letter_sets.Labelled.{Labelled}
+use Rattle.labels.specs.declared.labelled.Labelled.{Labelled}
 use Rattle.contraction.specs.Operands.{together}
-use Rattle.contraction.specs.declared.contraction.Operand.TheVariants.{A, B, D}
 use Rattle.contraction.proofs.Again.{extent_again}
 use Rattle.contraction.proofs.operands.Operands.extent.Goals as goal
 
@@ -20,18 +19,6 @@ behind : (o : Option Labelled) (d : Labelled) (a b : List Axis) (n m r : ℕ) �
 behind (Some l) d a b n m r e f = f (listed l.axes) e
 behind None d a b n m r e f =
     f [] e ∙ rw (← append_assoc a b [], ← append_assoc a b (listed d.axes)) (extent_again n (listed d.axes) (a ++ b))
-
-pub extent_in_c-requires : goal.extent_in_c-requires
-extent_in_c-requires c = c.requires
-
-pub extent_or-requires : goal.extent_or-requires
-extent_or-requires c = (c.requires.each B).checked.few
-
-pub extent_or-requires-2 : goal.extent_or-requires-2
-extent_or-requires-2 c = (c.requires.each A).checked.few
-
-pub extent_or-requires-3 : goal.extent_or-requires-3
-extent_or-requires-3 c = (c.requires.each D).checked.few
 
 pub returns : goal.returns
 unfolding together

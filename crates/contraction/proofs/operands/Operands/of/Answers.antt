@@ -2,25 +2,19 @@
 -- Assumes nothing.
 use mathlib.Core.Path.{◌≡◌, refl, subst, ◌∙◌}
 use mathlib.Core.List.{List, ◌++◌, append_assoc}
-use Rattle.std.specs.Prelude.{Option, None, Some, unwrap_or, IfSome, MatchOption}
+use Rattle.std.specs.Prelude.{Option, None, Some, unwrap_or, MatchOption}
 use native.Mathlib.Omega.{arith}
 use Rattle.layout.specs.declared.layout.Axis.{Axis}
 use Rattle.layout.specs.Listed.{listed}
 use Rattle.labels.specs.Labels.{labels}
-use Rattle.validity.specs.Checked.{Checked}
-use Rattle.labels.specs.declared.letter_sets.Labelled.{Labelled}
+use Rattle.labels.specs.declared.labelled.Labelled.{Labelled}
 use Rattle.labels.specs.declared.letter_sets.Letters.{Letters}
 use Rattle.labels.specs.LetterSets.{Spells}
-use Rattle.labels.specs.Lettered.{Lettered}
 use Rattle.labels.proofs.Spelling.{spells_itself}
-use Rattle.contraction.specs.Operands.{together}
+use Rattle.contraction.specs.Operands.{four, together}
 use Rattle.contraction.specs.declared.contraction.Operand.TheVariants.{A, B, C, D}
 use Rattle.contraction.proofs.Again.{labels_again}
 use Rattle.contraction.proofs.operands.Operands.of.Goals as goal
-
-checked_c : (o : Option Labelled) (d : Labelled) → Lettered (unwrap_or o d) → IfSome o (λ l. Checked l.axes)
-checked_c (Some l) d h = h.checked
-checked_c None d h = tt
 
 -- where C is not named, D stands behind the others once more
 behind : (o : Option Labelled) (d : Labelled) (a b : List Axis) (s r : Letters) → Spells s (labels ((listed d.axes ++ a) ++ b))
@@ -42,38 +36,40 @@ behind o d a b s r h f =
 
 pub with_axes-requires : goal.with_axes-requires
 with_axes-requires c =
-    let d = c.requires.each D in
-    (spells_itself c.args.d.letters _ d.spells, (c.requires.each A).checked, omega (arith, d.few))
+    let x = c.args in
+    let d = x.d.lettered in
+    (spells_itself x.d.letters _ d.spells, x.a.lettered.checked, omega (arith, d.few))
 
 pub with_axes-letters-requires : goal.with_axes-letters-requires
 with_axes-letters-requires c =
-    let p = c.requires in
-    let d = p.each D in (
+    let x = c.args in
+    let d = x.d.lettered in (
       spells_itself c.with_axes.result _ (c.with_axes.ensures.0 _ d.spells),
-      (p.each B).checked,
-      omega (arith, c.with_axes.ensures.1, d.few, (p.each A).checked.few),
+      x.b.lettered.checked,
+      omega (arith, c.with_axes.ensures.1, d.few, x.a.lettered.checked.few),
     )
 
 pub letters_with_c-requires : goal.letters_with_c-requires
 letters_with_c-requires c =
-    let p = c.requires in
-    let d = p.each D in (
+    let x = c.args in
+    let d = x.d.lettered in (
       spells_itself c.with_axes-letters.result _ (c.with_axes-letters.ensures.0 _ (c.with_axes.ensures.0 _ d.spells)),
-      checked_c c.args.c c.args.d (p.each C),
-      omega (arith, c.with_axes-letters.ensures.1, c.with_axes.ensures.1, d.few, (p.each A).checked.few, (p.each B).checked.few),
+      omega (arith, c.with_axes-letters.ensures.1, c.with_axes.ensures.1, d.few, x.a.lettered.checked.few, x.b.lettered.checked.few),
     )
 
-pub returns : goal.returns
+pub invariant_of-result : goal.invariant_of-result
 unfolding together
-returns c =
-    let p = c.requires in
+invariant_of-result c =
+    let x = c.args in
     record {
-      same = elim [ A ↦ refl | B ↦ refl | C ↦ refl | D ↦ refl ];
       gathered =
           record {
-            each = elim [ A ↦ p.each A | B ↦ p.each B | C ↦ p.each C | D ↦ p.each D ];
+            each = λ o. (four x.a x.b (unwrap_or x.c x.d) x.d o).lettered;
             all =
-                behind c.args.c c.args.d (listed c.args.a.axes) (listed c.args.b.axes) c.with_axes-letters.result c.letters_with_c.result
-                (c.with_axes-letters.ensures.0 _ (c.with_axes.ensures.0 _ (p.each D).spells)) c.letters_with_c.ensures;
+                behind x.c x.d (listed x.a.axes) (listed x.b.axes) c.with_axes-letters.result c.letters_with_c.result
+                (c.with_axes-letters.ensures.0 _ (c.with_axes.ensures.0 _ x.d.lettered.spells)) c.letters_with_c.ensures;
           };
     }
+
+pub returns : goal.returns
+returns c = record { same = elim [ A ↦ refl | B ↦ refl | C ↦ refl | D ↦ refl ]; gathered = (invariant_of-result c.before).gathered }

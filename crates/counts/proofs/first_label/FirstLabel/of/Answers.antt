@@ -51,12 +51,12 @@ pub none-still-requires : goal.none-still-requires
 none-still-requires c = tt
 
 pub returns-then-g-eq0 : goal.returns-then-g-eq0
-returns-then-g-eq0 c = still c.args.g c.none-still.result (omega arith) c.none-still.ensures
+returns-then-g-eq0 c = still c.args.g.now c.none-still.result (omega arith) c.none-still.ensures
 
 pub along-step-requires : goal.along-step-requires
 along-step-requires c = tt
 
 pub returns : goal.returns
 returns c =
-    let n : 0 < c.args.g.count = omega arith in
-    along (labels_in c.args.g) (get_or c.args.g.dims 0 no_dim) c.along-step.result (first c.args.g n) c.along-step.ensures
+    let n : 0 < c.args.g.now.count = omega arith in
+    along (labels_in c.args.g.now) (get_or c.args.g.now.dims 0 no_dim) c.along-step.result (first c.args.g.now n) c.along-step.ensures

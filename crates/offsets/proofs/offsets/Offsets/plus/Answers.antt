@@ -11,7 +11,7 @@ pub loop-o-init : goal.loop-o-init
 loop-o-init c = sym (front_none (sum_at c.args.self c.args.by) _)
 
 pub loop-o-preserved : goal.loop-o-preserved
-loop-o-preserved c = next_place (sum_at c.args.self c.args.by) _ (omega arith) c.loop-o.invariant c.wrapping_add_u64.ensures.value
+loop-o-preserved c = next_place (sum_at c.args.self c.args.by) _ (omega arith) c.loop-o.invariant refl
 
 pub returns : goal.returns
 returns c =

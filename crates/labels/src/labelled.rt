@@ -1,0 +1,31 @@
+ghost use Rattle.std.specs.Prelude.{◌≡◌};
+ghost use Rattle.validity.specs.Checked.{Checked};
+ghost use Rattle.labels.specs.LetteredBy.{LetteredBy};
+
+use super::letter_sets::Letters;
+use layout::axes::Axes;
+
+// A list of axes of which questions 1 and 3 to 5 passed, beside its different letters.
+#[derive(Clone, Copy)]
+pub struct Labelled {
+    pub axes: Axes,
+    pub letters: Letters,
+    pub ghost lettered: { LetteredBy axes letters },
+}
+
+impl Labelled {
+    pub fn none() -> Labelled {
+        Labelled {
+            axes: Axes::none(),
+            letters: Letters::none(),
+        }
+    }
+
+    pub fn of(axes: Axes) -> Labelled
+        requires { Checked axes }
+        ensures { result.axes ≡ axes }
+    {
+        let letters = Letters::none().with_axes(axes);
+        Labelled { axes, letters }
+    }
+}
