@@ -34,8 +34,8 @@ fn share(x: Axes, c: u32, d: u32) -> u64
 }
 
 // The sum that c's stride size has to exceed.
-fn sum_below(x: Labelled, c: u32) -> u64
-    ensures { result ≡ below (listed x.axes) c }
+fn sum_below(x: &Labelled, c: u32) -> u64
+    ensures { result ≡ below (listed x.now.axes) c }
 {
     let letters = x.letters.as_slice();
     let mut sum: u64 = 0;
@@ -46,16 +46,16 @@ fn sum_below(x: Labelled, c: u32) -> u64
 }
 
 // Does the stride of a label leave room for those that are no greater?
-fn has_room(x: Labelled, c: u32) -> bool
+fn has_room(x: &Labelled, c: u32) -> bool
     ensures { result
-        ≡ (leb (extent_of c (listed x.axes)) 1 || ltb (below (listed x.axes) c) (stride_size (listed x.axes) c)) }
+        ≡ (leb (extent_of c (listed x.now.axes)) 1 || ltb (below (listed x.now.axes) c) (stride_size (listed x.now.axes) c)) }
 {
     extent_of(x.axes, c) <= 1 || sum_below(x, c) < stride_size(x.axes, c)
 }
 
 // Does the stride of each label leave room for those that are no greater?
-fn strides_apart(x: Labelled) -> bool
-    ensures { result ≡ strides_apart (listed x.axes) }
+fn strides_apart(x: &Labelled) -> bool
+    ensures { result ≡ strides_apart (listed x.now.axes) }
 {
     let letters = x.letters.as_slice();
     letters.iter().all(|c| has_room(x, u32::from(*c)))
@@ -63,8 +63,8 @@ fn strides_apart(x: Labelled) -> bool
 
 // Question 9. Whether there are entries is looked at only where the strides don't tell.
 #[tactic(auto, unfolding(entries::specs::EntryQuestions::apart))]
-pub fn all_apart(x: Labelled) -> bool
-    ensures { result ≡ apart (listed x.axes) }
+pub fn all_apart(x: &Labelled) -> bool
+    ensures { result ≡ apart (listed x.now.axes) }
 {
     strides_apart(x) || !has_entries(x)
 }

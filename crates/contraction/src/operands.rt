@@ -52,8 +52,8 @@ impl Operands {
     }
 
     // The extent of a letter where it first occurs in C, 1 where it is absent or C is not named.
-    fn extent_in_c(self, c: u32) -> u32
-        ensures { MatchOption self.c (result ≡ 1) (λ l. result ≡ extent_of c (listed l.axes)) }
+    fn extent_in_c(&self, c: u32) -> u32
+        ensures { MatchOption self.now.c (result ≡ 1) (λ l. result ≡ extent_of c (listed l.axes)) }
     {
         match self.c {
             Some(l) => extent_of(l.axes, c),
@@ -62,8 +62,8 @@ impl Operands {
     }
 
     // The extent of a label: that of its letter where it first occurs.
-    pub fn extent(self, c: u32) -> u32
-        ensures { result ≡ extent_of c (together (shape_of self)) }
+    pub fn extent(&self, c: u32) -> u32
+        ensures { result ≡ extent_of c (together (shape_of self.now)) }
     {
         extent_or(
             self.d.axes,

@@ -17,12 +17,12 @@ use sums::walk::Walk;
 pub fn fill(x: &Sources, d: &mut [u32], base: Offsets, output: Walk, depth: Walk)
     requires { FillableFrom x.now base output depth (length d.old) }
     ensures { d.new
-        ≡ each (size (over output)) (λ m. filled_of x.now (over depth) (places base (over output) m)) d.old }
+        ≡ each (size (over output.entry)) (λ m. filled_of x.now (over depth.entry) (places base (over output.entry) m)) d.old }
 {
     let mut output_table = [Row::none(); Limits::LABELS];
     let mut depth_table = [Row::none(); Limits::LABELS];
-    let rows = tabulate(&output.group, &mut output_table);
-    let depth_rows = tabulate(&depth.group, &mut depth_table);
+    let rows = tabulate(output.group, &mut output_table);
+    let depth_rows = tabulate(depth.group, &mut depth_table);
     let outputs = TabledWalk { walk: output, rows };
     let depths = TabledWalk {
         walk: depth,

@@ -8,8 +8,8 @@ use labels::labelled::Labelled;
 use labels::labels::{extent_of, last_index, stride_of};
 
 // Has the tensor any entry? With an extent 0 it has none.
-pub fn has_entries(x: Labelled) -> bool
-    ensures { result ≡ has_entries (listed x.axes) }
+pub fn has_entries(x: &Labelled) -> bool
+    ensures { result ≡ has_entries (listed x.now.axes) }
 {
     let letters = x.letters.as_slice();
     letters.iter().all(|c| 0 < extent_of(x.axes, u32::from(*c)))
@@ -43,9 +43,9 @@ impl Reach {
     }
 }
 
-pub fn reach_of(x: Labelled) -> Reach
-    ensures { (result.up ≡ span up (listed x.axes))
-        × (result.down ≡ span down (listed x.axes))
+pub fn reach_of(x: &Labelled) -> Reach
+    ensures { (result.up ≡ span up (listed x.now.axes))
+        × (result.down ≡ span down (listed x.now.axes))
         × (result.up < 2 ^ 60)
         × (result.down < 2 ^ 60) }
 {
@@ -60,8 +60,8 @@ pub fn reach_of(x: Labelled) -> Reach
 
 // Question 8.
 #[tactic(auto, unfolding(crate::specs::EntryQuestions::inside))]
-pub fn all_inside(x: Labelled, base: u32, length: usize) -> bool
-    ensures { result ≡ inside (listed x.axes) base length }
+pub fn all_inside(x: &Labelled, base: u32, length: usize) -> bool
+    ensures { result ≡ inside (listed x.now.axes) base length }
 {
     let reach = reach_of(x);
     let start = u64::from(base);

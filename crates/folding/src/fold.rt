@@ -65,22 +65,33 @@ fn add(out: &mut Group, l: Dim)
     }
 }
 
-// The labels of the letters that the set has, in order of first appearance in D's, A's, B's and C's letters, with labels of extent 1 dropped and labels that
-// step together joined. A label is made where the set has its letter: a list of all labels would be copied for each set.
-pub fn folded(x: Operands, set: u64) -> Group
-    requires { (length (labels (together (shape_of x))) ≤ labels_limit)
-        × Foldable (labels_where (shape_of x) (has set)) }
-    ensures { (labels_in result ≡ fold (labels_where (shape_of x) (has set))) × (result.count ≤ labels_limit) }
+// Puts into an empty group the labels of the letters that the set has, in order of first appearance in D's, A's, B's and C's letters, with labels of extent 1
+// dropped and labels that step together joined. A label is made where the set has its letter: a list of all labels would be copied for each set.
+pub fn fold_into(out: &mut Group, x: &Operands, set: u64)
+    requires { (out.old.count ≡ 0)
+        × (length (labels (together (shape_of x.now))) ≤ labels_limit)
+        × Foldable (labels_where (shape_of x.now) (has set)) }
+    ensures { (labels_in out.new ≡ fold (labels_where (shape_of x.now) (has set))) × (out.new.count ≤ labels_limit) }
 {
-    let mut out = Group::none();
-    for c in &x.letters.letters[..x.letters.count] {
+    let letters = x.letters.as_slice();
+    for c in letters {
         let c = wide(*c);
         if has_letter(set, c) {
             let l = dim_of(x, c);
             if l.extent != 1 {
-                add(&mut out, l);
+                add(out, l);
             }
         }
     }
+}
+
+// The same as a group of its own.
+pub fn folded(x: &Operands, set: u64) -> Group
+    requires { (length (labels (together (shape_of x.now))) ≤ labels_limit)
+        × Foldable (labels_where (shape_of x.now) (has set)) }
+    ensures { (labels_in result ≡ fold (labels_where (shape_of x.now) (has set))) × (result.count ≤ labels_limit) }
+{
+    let mut out = Group::none();
+    fold_into(&mut out, x, set);
     out
 }

@@ -63,9 +63,9 @@ fn sets_of(a: u64, b: u64, d: u64) -> Sets
 }
 
 // The stride of a letter in C. Where C is not named, that is its stride in D, which is `d`.
-fn stride_in_c(x: Operands, c: u32, d: u64) -> u64
-    requires { d ≡ word_of 64 (stride_of c (shape_of x D)) }
-    ensures { result ≡ word_of 64 (stride_of c (shape_of x C)) }
+fn stride_in_c(x: &Operands, c: u32, d: u64) -> u64
+    requires { d ≡ word_of 64 (stride_of c (shape_of x.now D)) }
+    ensures { result ≡ word_of 64 (stride_of c (shape_of x.now C)) }
 {
     match x.c {
         Some(l) => stride_of(l.axes, c),
@@ -74,8 +74,8 @@ fn stride_in_c(x: Operands, c: u32, d: u64) -> u64
 }
 
 // A letter's label.
-pub fn dim_of(x: Operands, c: u32) -> Dim
-    ensures { as_label result ≡ label (shape_of x) c }
+pub fn dim_of(x: &Operands, c: u32) -> Dim
+    ensures { as_label result ≡ label (shape_of x.now) c }
 {
     let in_d = stride_of(x.d.axes, c);
     let strides = [
@@ -138,8 +138,8 @@ impl Group {
 }
 
 // The four groups of a contraction's labels, as sets of letters.
-pub fn groups_of(x: Operands) -> Sets
-    ensures { Grouped (shape_of x) result }
+pub fn groups_of(x: &Operands) -> Sets
+    ensures { Grouped (shape_of x.now) result }
 {
     sets_of(x.a.letters.set, x.b.letters.set, x.d.letters.set)
 }

@@ -19,13 +19,14 @@ pub stands_in : (file : List ℕ) (c : Option TensorParts) (d : TensorParts) (a 
 stands_in file (Some c) d a b go = refl
 stands_in file None d a b go = refl
 
+-- a reading where a test says so, or a value without reading, and then the rest: either goes on to it
+then_either : {X Y Z : Type 0} (test : Bool) (read : Reading X) (made : X → Y) (default : Y) (at : ℕ) (rest : Y → ℕ → Reading Z)
+    → then (cond test (then read (λ x. got (made x))) (got default at)) rest ≡ cond test (then read (λ x. rest (made x))) (rest default at)
+then_either true (got x next) made default at rest = refl
+then_either true (file_refused number) made default at rest = refl
+then_either false read made default at rest = refl
+
 -- C's records where they are there, and then D's
 pub c_then_d : (file : List ℕ) (a b : Tensor) (at : ℕ) → then (c_at file at) (λ c. from_d file (job_after a b c)) ≡ from_c file a b at
 unfolding c_at from_c
-c_then_d file a b at = by_mark (layout_begins file letter_c at) (tensor_records file letter_c at)
-  where
-    by_mark : (b' : Bool) (read : Reading Tensor) → then (cond b' (then read (λ c. got (Some c))) (got None at)) (λ c. from_d file (job_after a b c))
-        ≡ cond b' (then read (λ c. from_d file (job_after a b (Some c)))) (from_d file (job_after a b None) at)
-    by_mark true (got c next) = refl
-    by_mark true (file_refused number) = refl
-    by_mark false read = refl
+c_then_d file a b at = then_either (layout_begins file letter_c at) (tensor_records file letter_c at) _ _ at _

@@ -1,13 +1,14 @@
--- The sum of a letter's strides, axis by axis: with one axis more, and that it fits 64 bits where the axes passed their test.
+-- The word of the sum of a letter's strides, axis by axis: with one axis more, where the axes passed their test.
 -- Assumes nothing.
-use Rattle.std.proofs.Common.{◌≡◌, ℕ, ◌+◌, ◌*◌, ◌<◌, ◌≤◌, cond, T, eqb, leb, List, [], ◌∷◌, ◌++◌, length, get_or, take, ℤ, pos, ◌+ℤ◌, nat_abs, sym, ap, ◌∙◌, arith, leb→le, length-take-le, w32, w64, to_z, of_z, FitsSigned}
+use Rattle.std.proofs.Common.{◌≡◌, ℕ, ◌+◌, ◌*◌, ◌%◌, ◌^◌, ◌<◌, ◌≤◌, cond, T, eqb, leb, List, [], ◌∷◌, ◌++◌, length, get_or, take, ℤ, pos, ◌+ℤ◌, nat_abs, sym, ap, ◌∙◌, arith, leb→le, length-take-le, w32, to_z, of_z}
 use Rattle.std.proofs.Math.IntN.{+ℤ_assoc, +ℤ_comm, +ℤ_idr}
 use Rattle.std.proofs.lemmas.List.{take_more}
 use Rattle.std.proofs.lemmas.Int.{fits_signed_from_abs}
 use mir.ValLaws.{to_z-of_z}
 use Rattle.words.proofs.Lists.{eqb_self, eqb_ne}
 use Rattle.words.proofs.Sums.{every_at, every_take}
-use Rattle.words.proofs.Whole.{size_add}
+use Rattle.words.specs.Words.{word_of}
+use Rattle.words.proofs.Whole.{word_add}
 use Rattle.limits.specs.Limits.{rank_limit, stride_limit}
 use Rattle.layout.specs.declared.layout.Axis.{Axis}
 use Rattle.layout.specs.Layout.{no_axis}
@@ -33,20 +34,15 @@ module _ (xs : List Axis) (valid : T (strides_valid xs)) (few : length xs ≤ ra
   unfolding strides_valid
   sum_small = omega (arith, strides_bound (take i xs) (every_take (λ a. leb (nat_abs a.stride) stride_limit) i xs valid) c, length-take-le i xs (omega arith))
 
-  -- the stride as the code has it, extended to 64 bits
-  wide_stride : to_z w64 (of_z w64 (to_z w32 (of_z w32 (get_or xs i no_axis).stride))) ≡ (get_or xs i no_axis).stride
-  wide_stride =
-      let s = (get_or xs i no_axis).stride in
-      rw (to_z-of_z w32 s (fits_signed_from_abs w32 s (omega (arith, stride_small)))) (to_z-of_z w64 s (fits_signed_from_abs w64 s (omega (arith, stride_small))))
+  -- the stride as the code has it
+  held_stride : to_z w32 (of_z w32 (get_or xs i no_axis).stride) ≡ (get_or xs i no_axis).stride
+  held_stride = let s = (get_or xs i no_axis).stride in to_z-of_z w32 s (fits_signed_from_abs w32 s (omega (arith, stride_small)))
 
-  pub sum_fits : (sum r : ℤ) → sum ≡ stride_of c (take i xs) → r ≡ to_z w32 (of_z w32 (get_or xs i no_axis).stride) → FitsSigned w64 (sum +ℤ to_z w64 (of_z w64 r))
-  sum_fits sum r e f =
-      let s = (get_or xs i no_axis).stride in
-      rw (f, wide_stride, e) (fits_signed_from_abs w64 _ (omega (arith, size_add (stride_of c (take i xs)) s, stride_small, sum_small)))
-
-  pub sum_next : (sum r : ℤ) → sum ≡ stride_of c (take i xs) → r ≡ to_z w32 (of_z w32 (get_or xs i no_axis).stride) → (get_or xs i no_axis).letter ≡ c
-      → to_z w64 (of_z w64 (sum +ℤ to_z w64 (of_z w64 r))) ≡ stride_of c (take (i + 1) xs)
-  sum_next sum r e f l = to_z-of_z w64 _ (sum_fits sum r e f) ∙ rw (f, wide_stride, e, stride_next, l, eqb_self c)
+  pub sum_next : (sum r : ℕ) → sum ≡ word_of 64 (stride_of c (take i xs)) → r ≡ word_of 64 (to_z w32 (of_z w32 (get_or xs i no_axis).stride))
+      → (get_or xs i no_axis).letter ≡ c → (sum + r) % 2 ^ 64 ≡ word_of 64 (stride_of c (take (i + 1) xs))
+  sum_next sum r e f l =
+      rw (e, f, held_stride, stride_next, l, eqb_self c)
+      (word_add (stride_of c (take i xs)) (get_or xs i no_axis).stride (omega (arith, sum_small)) (omega (arith, stride_small)))
 
   pub sum_other : ((get_or xs i no_axis).letter ≡ c → ⊥) → stride_of c (take i xs) ≡ stride_of c (take (i + 1) xs)
   sum_other ne = rw (stride_next, eqb_ne (get_or xs i no_axis).letter c ne) (sym (+ℤ_idr (stride_of c (take i xs))))

@@ -14,7 +14,12 @@ pub struct Labelled {
 }
 
 impl Labelled {
-    pub fn none() -> Labelled {
+    ghost use Rattle.labels.specs.Lettered.{Lettered};
+
+    // No axis, and no letter.
+    pub fn none() -> Labelled
+        ensures { Lettered result × (result.axes.count ≡ 0) }
+    {
         Labelled {
             axes: Axes::none(),
             letters: Letters::none(),
@@ -23,7 +28,7 @@ impl Labelled {
 
     pub fn of(axes: Axes) -> Labelled
         requires { Checked axes }
-        ensures { result.axes ≡ axes }
+        ensures { Lettered result × (result.axes ≡ axes) }
     {
         let letters = Letters::none().with_axes(axes);
         Labelled { axes, letters }

@@ -36,13 +36,13 @@ pub fn stride_of(x: Axes, c: u32) -> u64
     ensures { result ≡ word_of 64 (stride_of c (listed x)) }
 {
     let axes = x.as_slice();
-    let mut sum: i64 = 0;
+    let mut sum: u64 = 0;
     for a in axes {
         if a.letter == c {
-            sum += i64::from(a.stride);
+            sum = sum.wrapping_add(words::address_word(a.stride));
         }
     }
-    sum.cast_unsigned()
+    sum
 }
 
 // The last index of a label: one less than its extent, and 0 where that is 0.

@@ -16,6 +16,17 @@ fn pack_short(src: &[u32], at: u64, step: u64, n: usize, out: &mut [u32], to: us
     }
 }
 
+// n words one after the other from `at` on, stored from `to` on. A loop and no `copy_from_slice`, which is C's `memmove` where it is compiled into the
+// archive: that needs `memcpy` and `memset` from outside, and no more.
+fn copy(src: &[u32], at: usize, n: usize, out: &mut [u32], to: usize)
+    requires { (at + n ≤ length src.now) × (to + n ≤ length out.old) }
+    ensures { out.new ≡ stored n (λ k. slice_index src.now (at + k)) to out.old }
+{
+    for k in 0..n {
+        out[to + k] = src[at + k];
+    }
+}
+
 // n words, each a step from the one before, stored from `to` on.
 fn gather(src: &[u32], at: u64, step: u64, n: usize, out: &mut [u32], to: usize)
     requires { Within n (stepped at step) (length src.now) × (to + n ≤ length out.old) }
@@ -36,8 +47,7 @@ pub fn pack_words(src: &[u32], at: u64, step: u64, n: usize, out: &mut [u32], to
     if n < 3 {
         pack_short(src, at, step, n, out, to);
     } else if step == 1 {
-        let first = at as usize;
-        out[to..to + n].copy_from_slice(&src[first..first + n]);
+        copy(src, at as usize, n, out, to);
     } else {
         gather(src, at, step, n, out, to);
     }

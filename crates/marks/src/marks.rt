@@ -3,6 +3,18 @@ ghost use Rattle.marks.specs.Marks.{letter, kind_of, is_layout, word_width, is_g
 
 use contraction::contraction::Operand;
 
+// The ASCII code of a tensor's letter.
+pub fn ascii(tensor: Operand) -> u8
+    ensures { result ≡ letter tensor }
+{
+    match tensor {
+        Operand::A => b'A',
+        Operand::B => b'B',
+        Operand::C => b'C',
+        Operand::D => b'D',
+    }
+}
+
 // A record's kind, with its tensor.
 #[derive(Clone, Copy, PartialEq, Eq)]
 pub enum Kind {
@@ -35,20 +47,20 @@ impl Kind {
         }
     }
 
-    // Is a record of this kind the layout of this tensor?
-    pub fn is_layout(self, tensor: Operand) -> bool
-        ensures { result ≡ is_layout (letter tensor) self }
+    // Is a record of this kind the layout of the tensor with this letter?
+    pub fn is_layout(self, letter: u8) -> bool
+        ensures { result ≡ is_layout letter self }
     {
-        self == Kind::Layout(tensor)
+        matches!(self, Kind::Layout(tensor) if ascii(tensor) == letter)
     }
 
-    // How many bytes a word has in a record of this kind, where it holds the words of this tensor.
-    pub fn word_width(self, tensor: Operand) -> Option<usize>
-        ensures { result ≡ known_width (word_width (letter tensor) self) }
+    // How many bytes a word has in a record of this kind, where it holds the words of the tensor with this letter.
+    pub fn word_width(self, letter: u8) -> Option<usize>
+        ensures { result ≡ known_width (word_width letter self) }
     {
         match self {
-            Kind::Words(of) if of == tensor => Some(4),
-            Kind::Bytes(of) if of == tensor => Some(1),
+            Kind::Words(tensor) if ascii(tensor) == letter => Some(4),
+            Kind::Bytes(tensor) if ascii(tensor) == letter => Some(1),
             _ => None,
         }
     }

@@ -5,8 +5,8 @@ ghost use Rattle.plain.specs.PlainCall.{plain_call};
 
 use contraction::contraction::{Contraction, Lengths};
 use direct::fill::fill;
-use folding::fold::folded;
-use groups::groups::groups_of;
+use folding::fold::fold_into;
+use groups::groups::{Group, groups_of};
 use output_words::output::Sources;
 use plan::plan::base_of;
 use questions::questions::first_no;
@@ -30,10 +30,13 @@ pub fn contract(
         c: c.len(),
         d: d.len(),
     };
-    let lists = first_no(k, n)?;
-    let sets = groups_of(lists);
-    let output = folded(lists, lists.d.letters.set);
-    let depth = folded(lists, sets.depth);
+    let lists = first_no(&k, n)?;
+    let sets = groups_of(&lists);
+    // Made in their places: as results they would be copied twice, a kilobyte each.
+    let mut output = Group::none();
+    fold_into(&mut output, &lists, lists.d.letters.set);
+    let mut depth = Group::none();
+    fold_into(&mut depth, &lists, sets.depth);
     let x = Sources {
         a,
         b,
@@ -41,6 +44,6 @@ pub fn contract(
         alpha: k.alpha,
         beta: k.beta,
     };
-    fill(&x, d, base_of(k), walk_of(output), walk_of(depth));
+    fill(&x, d, base_of(&k), walk_of(&output), walk_of(&depth));
     Ok(())
 }

@@ -16,8 +16,8 @@ pub struct Plan {
 }
 
 // Where each tensor begins. Where C is not named, it begins where D does.
-pub fn base_of(c: Contraction) -> Offsets
-    ensures { Bases (tensors c) result }
+pub fn base_of(c: &Contraction) -> Offsets
+    ensures { Bases (tensors c.now) result }
 {
     let base_of_c = c.c.unwrap_or(c.d).base;
     let words = [
@@ -30,9 +30,9 @@ pub fn base_of(c: Contraction) -> Offsets
 }
 
 // The plan of a contraction that questions 1 to 9 accept, from the lists of its axes.
-pub fn plan_of(c: Contraction, x: Operands) -> Plan
-    requires { Ready c x × AllFoldable (shape (tensors c)) }
-    ensures { Planned (tensors c) result }
+pub fn plan_of(c: &Contraction, x: &Operands) -> Plan
+    requires { Ready c.now x.now × AllFoldable (shape (tensors c.now)) }
+    ensures { Planned (tensors c.now) result }
 {
     let sets = groups_of(x);
     let groups = Groups {

@@ -15,18 +15,18 @@ use layout::axes::Axes;
 use limits::limits::Limits;
 
 // Have the axes of a tensor the extents of their labels?
-fn extents_as(x: Operands, t: Axes) -> bool
+fn extents_as(x: &Operands, t: Axes) -> bool
     requires { t.count ≤ rank_limit }
-    ensures { result ≡ every (λ a. eqb a.extent (extent_of a.letter (together (shape_of x)))) (listed t) }
+    ensures { result ≡ every (λ a. eqb a.extent (extent_of a.letter (together (shape_of x.now)))) (listed t) }
 {
     let axes = t.as_slice();
     axes.iter().all(|a| a.extent == x.extent(a.letter))
 }
 
 // The same of C's axes. Where C is not named they are D's, of which `d` is the answer.
-fn extents_as_c(x: Operands, d: bool) -> bool
-    requires { d ≡ every (λ a. eqb a.extent (extent_of a.letter (together (shape_of x)))) (shape_of x D) }
-    ensures { result ≡ every (λ a. eqb a.extent (extent_of a.letter (together (shape_of x)))) (shape_of x C) }
+fn extents_as_c(x: &Operands, d: bool) -> bool
+    requires { d ≡ every (λ a. eqb a.extent (extent_of a.letter (together (shape_of x.now)))) (shape_of x.now D) }
+    ensures { result ≡ every (λ a. eqb a.extent (extent_of a.letter (together (shape_of x.now)))) (shape_of x.now C) }
 {
     match x.c {
         Some(c) => extents_as(x, c.axes),
@@ -35,8 +35,8 @@ fn extents_as_c(x: Operands, d: bool) -> bool
 }
 
 // Question 6.
-pub fn extents_agree(x: Operands) -> bool
-    ensures { result ≡ extents_agree (together (shape_of x)) }
+pub fn extents_agree(x: &Operands) -> bool
+    ensures { result ≡ extents_agree (together (shape_of x.now)) }
 {
     let d = extents_as(x, x.d.axes);
     d & (extents_as(x, x.a.axes) & (extents_as(x, x.b.axes) & extents_as_c(x, d)))
@@ -57,8 +57,8 @@ fn letters_in(t: Axes, set: u64) -> bool
 }
 
 // Question 30. Where C is not named, its letters are D's.
-pub fn letters_same(x: Operands) -> bool
-    ensures { result ≡ letters_same (shape_of x C) (shape_of x D) }
+pub fn letters_same(x: &Operands) -> bool
+    ensures { result ≡ letters_same (shape_of x.now C) (shape_of x.now D) }
 {
     match x.c {
         Some(c) => letters_in(c.axes, x.d.letters.set) & letters_in(x.d.axes, c.letters.set),
@@ -67,8 +67,8 @@ pub fn letters_same(x: Operands) -> bool
 }
 
 // Question 7. An extent 0 counts as 1, and the product stops growing just above the limit.
-pub fn points_fit(x: Operands) -> bool
-    ensures { result ≡ points_fit (together (shape_of x)) }
+pub fn points_fit(x: &Operands) -> bool
+    ensures { result ≡ points_fit (together (shape_of x.now)) }
 {
     let letters = x.letters.as_slice();
     let mut product: u64 = 1;

@@ -2,10 +2,8 @@ ghost use Rattle.std.specs.Prelude.{◌≡◌, ◌+◌, ◌≤◌, true, false, 
 ghost use Rattle.records.specs.Records.{kind_at, layout_begins, layout_record};
 ghost use Rattle.refusals.specs.declared.refusal.Refusal.{Refusal};
 ghost use Rattle.little_endian.specs.Bytes.{has};
-ghost use Rattle.marks.specs.Marks.{letter};
 ghost use Rattle.records.specs.RecordParts.{reading, layout_in, LayoutHeld, ReadAs};
 
-use contraction::contraction::Operand;
 use limits::limits::Limits;
 use little_endian::numbers::{Cursor, two_bytes};
 use marks::marks::Kind;
@@ -59,22 +57,22 @@ pub fn kind_at(file: &[u8], from: Cursor) -> Result<Kind, Refusal>
     Ok(Kind::of(two_bytes(file, from.at)))
 }
 
-// Does the layout of this tensor begin here?
-pub fn layout_begins(file: &[u8], from: Cursor, tensor: Operand) -> bool
+// Does the layout of the tensor with this letter begin here?
+pub fn layout_begins(file: &[u8], from: Cursor, letter: u8) -> bool
     requires { from.at ≤ length file.now }
-    ensures { result ≡ layout_begins file.now (letter tensor) from.at }
+    ensures { result ≡ layout_begins file.now letter from.at }
 {
-    from.has(file, 2) && Kind::of(two_bytes(file, from.at)).is_layout(tensor)
+    from.has(file, 2) && Kind::of(two_bytes(file, from.at)).is_layout(letter)
 }
 
-// The layout of this tensor.
-pub fn layout_record(file: &[u8], from: Cursor, tensor: Operand) -> Read<LayoutPart>
+// The layout of the tensor with this letter.
+pub fn layout_record(file: &[u8], from: Cursor, letter: u8) -> Read<LayoutPart>
     requires { from.at ≤ length file.now }
-    ensures { ReadAs layout_in LayoutHeld file.now (reading result) (layout_record file.now (letter tensor) from.at) }
+    ensures { ReadAs layout_in LayoutHeld file.now (reading result) (layout_record file.now letter from.at) }
 {
     let at = from.at;
     let kind = kind_at(file, from)?;
-    if !kind.is_layout(tensor) {
+    if !kind.is_layout(letter) {
         return Err(Refusal::Mark);
     }
     need(file, from, 3)?;

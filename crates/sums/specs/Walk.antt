@@ -41,12 +41,12 @@ pub record Readable (g : List Label) (a b : List ℕ) (at : Operand → ℕ) : T
 
 -- the labels that a walk goes over
 abbrev pub over : Walk → List Label
-over w = labels_in w.group
+over w = labels_in w.group.now
 
 -- the code's walk goes over the group in runs of its first label
 pub record Walks (g : List Label) (w : Walk) : Type 0 where
   pub labels : over w ≡ g
-  pub few : w.group.count ≤ labels_limit
+  pub few : w.group.now.count ≤ labels_limit
   pub small : size g ≤ product_limit
   pub len : w.len ≡ (first_label g).extent
   pub step : (o : Operand) → words_in w.step o ≡ word_of 64 ((first_label g).stride o)

@@ -10,8 +10,8 @@ use offsets::offsets::Offsets;
 
 // A group and how its counts are walked: in runs of its first label, `len` counts each, one step apart. Where that label has extent 0 there is no run.
 #[derive(Clone, Copy)]
-pub struct Walk {
-    pub group: Group,
+pub struct Walk<'a> {
+    pub group: &'a Group,
     pub step: Offsets,
     pub len: u32,
     pub runs: u32,
@@ -25,13 +25,14 @@ pub struct Run {
     pub len: u32,
 }
 
-pub fn walk_of(g: Group) -> Walk
-    requires { (g.count ≤ labels_limit) × Foldable (labels_in g) }
-    ensures { Walks (labels_in g) result }
+pub fn walk_of(g: &Group) -> Walk<'_>
+    requires { (g.now.count ≤ labels_limit) × Foldable (labels_in g.now) }
+    ensures { Walks (labels_in g.now) result }
 {
-    let label = FirstLabel::of(&g);
+    let label = FirstLabel::of(g);
     let step = label.step;
-    let runs = if label.len == 0 {
+    let empty = label.len == 0;
+    let runs = if empty {
         0
     } else if g.count == 0 {
         1

@@ -1,7 +1,7 @@
 -- The answers of tensors joined: a question that is put to several tensors passes where each passes, so that the first one to fail is the sooner of
 -- those that fail of some and of the others.
 -- Assumes nothing.
-use mathlib.Core.Path.{◌≡◌, refl}
+use mathlib.Core.Path.{◌≡◌, refl, sym, ◌∙◌}
 use mathlib.Core.Bool.{Bool, true, false, cond, ◌&&◌}
 use mathlib.Core.List.{List, ◌++◌}
 use Prim.Native.Nat.{ℕ, ◌<◌, ◌≤◌, min}
@@ -89,3 +89,15 @@ joined_refusal xs ys =
     put : (k j : ℕ) → 0 < k → j < k → (p : Lent → Bool) → {r m n : ℕ} → Joins k r m n
         → Joins j (cond (every p xs && every p ys) r k) (cond (every p xs) m k) (cond (every p ys) n k)
     put k j h l p q = before k h (every p xs) (every p ys) l q
+
+-- where no question fails of all, none fails of some nor of the others
+pub joined_none : (xs ys : List Lent) → refusal (tensor_questions (xs ++ ys)) ≡ 0 → (refusal (tensor_questions xs) ≡ 0) × (refusal (tensor_questions ys) ≡ 0)
+joined_none xs ys e = go (refusal (tensor_questions xs)) (refusal (tensor_questions ys)) (sym (joined_refusal xs ys) ∙ e)
+  where
+    go : (m n : ℕ) → sooner m n ≡ 0 → (m ≡ 0) × (n ≡ 0)
+    go m n z = left (ℕ_discrete m 0) (ℕ_discrete n 0)
+      where
+        left : Dec (m ≡ 0) → Dec (n ≡ 0) → (m ≡ 0) × (n ≡ 0)
+        left (yes a) b = (a, rw (eq-eqb m 0 a) at z)
+        left (no a) (yes b) = absurd (a (rw (ne_eqb m 0 a, eq-eqb n 0 b) at z))
+        left (no a) (no b) = let s : min m n ≡ 0 = rw (ne_eqb m 0 a, ne_eqb n 0 b) at z in absurd (omega (arith, s, a, b))

@@ -19,12 +19,15 @@ pub record BothOf {S T U : Type 0} (a : Result S Refusal) (b : Result T Refusal)
       → status r ≡ refusal (tensor_questions (xs ++ ys))
   pub passed : IfOk r (λ _. IsOk a × IsOk b)
 
--- a tensor of which questions 1 to 5 passed: the list of its axes, and whether its entries are inside
+-- a tensor's own answer: the first of questions 1 to 5 that it fails
+abbrev pub OwnOf : Layout → ℕ → Result (Unit {0}) Refusal → Type 0
+OwnOf l n r = status r ≡ refusal (tensor_questions (record { layout = l; words = n } ∷ []))
+
+-- questions 1 to 5 pass of a tensor
+abbrev pub Passed : Layout → ℕ → Type 0
+Passed l n = refusal (tensor_questions (record { layout = l; words = n } ∷ [])) ≡ 0
+
+-- what such a tensor leaves: the list of its axes, and whether its entries are inside
 pub record PassedOf (l : Layout) (n : ℕ) (x : Asked) : Type 0 where
   pub lists : ListOf l x.lists
   pub inside : x.inside ≡ entries_inside (record { layout = l; words = n } ∷ [])
-
--- a tensor's own answer: the first of questions 1 to 5 that it fails, or what it leaves
-pub record AskedOf (l : Layout) (n : ℕ) (r : Result Asked Refusal) : Type 0 where
-  pub number : status r ≡ refusal (tensor_questions (record { layout = l; words = n } ∷ []))
-  pub passed : IfOk r (PassedOf l n)

@@ -1,4 +1,4 @@
-ghost use Rattle.tensor_answers.specs.Answers.{BothOf, AskedOf};
+ghost use Rattle.tensor_answers.specs.Answers.{BothOf, OwnOf, Passed, PassedOf};
 
 use entries::inside::all_inside;
 use labels::labelled::Labelled;
@@ -28,23 +28,32 @@ pub fn both<S: Copy, T: Copy>(a: &Result<S, Refusal>, b: &Result<T, Refusal>) ->
     }
 }
 
+// Questions 1 to 5 of a tensor, from its layout and the length of its slice. They answer without the lists, which are made once the tensors passed:
+// a result that carries them would be copied each time that it is handed on.
+#[tactic(auto, unfolding(crate::specs::OwnQuestions::tensor_questions))]
+pub fn own_refusal(l: &Layout, length: usize) -> Result<(), Refusal>
+    ensures { OwnOf l.now length result }
+{
+    ask(rank_fits(*l), Refusal::Rank)?;
+    ask(counts_match(*l), Refusal::Counts)?;
+    let axes = Axes::of(*l);
+    let v = valid_of(axes);
+    ask(v.letters, Refusal::Letters)?;
+    ask(v.extents, Refusal::Extents)?;
+    ask(sizes_valid(*l, v.strides, length), Refusal::Sizes)
+}
+
 impl Asked {
-    // Questions 1 to 5 of a tensor, from its layout and the length of its slice.
-    #[tactic(auto, unfolding(crate::specs::OwnQuestions::tensor_questions))]
-    pub fn of(l: Layout, length: usize) -> Result<Asked, Refusal>
-        ensures { AskedOf l length result }
+    // What a tensor leaves of which questions 1 to 5 passed.
+    pub fn left_by(l: &Layout, length: usize) -> Asked
+        requires { Passed l.now length }
+        ensures { PassedOf l.now length result }
     {
-        ask(rank_fits(l), Refusal::Rank)?;
-        ask(counts_match(l), Refusal::Counts)?;
-        let axes = Axes::of(l);
-        let v = valid_of(axes);
-        ask(v.letters, Refusal::Letters)?;
-        ask(v.extents, Refusal::Extents)?;
-        ask(sizes_valid(l, v.strides, length), Refusal::Sizes)?;
+        let axes = Axes::of(*l);
         let lists = Labelled::of(axes);
-        Ok(Asked {
+        Asked {
             lists,
-            inside: all_inside(lists, l.base, length),
-        })
+            inside: all_inside(&lists, l.base, length),
+        }
     }
 }

@@ -4,7 +4,7 @@ ghost use Rattle.answers.specs.StateAnswer.{state_answer};
 ghost use Rattle.answers.specs.TileAnswer.{tile_answer, tile_call_of};
 ghost use Rattle.tiled.specs.TileCall.{tile_call, state_call};
 
-use accept::accept::Accept;
+use accept::accept::{Accept, accepted};
 use answers::tile_answer::Ran;
 use contraction::contraction::{Contraction, Lengths};
 use one_tile::tile::TiledCall;
@@ -34,7 +34,8 @@ pub fn run(
         c: c.len(),
         d: d.len(),
     };
-    let x = Accept::of(k, z, n)?;
+    let lists = accepted(&k, z, n)?;
+    let x = Accept::from_lists(&k, z, &lists);
     let g = x.grid;
     tile_refusal(g, work.len(), done)?;
     let total = g.total;
@@ -78,7 +79,8 @@ pub fn state(
         c: c.len(),
         d: d.len(),
     };
-    let x = Accept::of(k, z, n)?;
+    let lists = accepted(&k, z, n)?;
+    let x = Accept::from_lists(&k, z, &lists);
     let g = x.grid;
     state_refusal(g, done, h, i, j)?;
     Ok(g.state(done, h, i, j))

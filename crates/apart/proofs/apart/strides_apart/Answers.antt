@@ -8,4 +8,4 @@ use Rattle.apart.proofs.apart.strides_apart.Goals as goal
 
 pub returns : goal.returns
 unfolding strides_apart
-returns c = slice_all _ c.all.ensures.ran (c.iter.ensures.rest ∙ c.as_slice-letters.ensures ∙ c.args.x.lettered.spells.spells) (λ x b q k. search (rules, tests))
+returns c = slice_all _ c.all.ensures.ran (c.iter.ensures.rest ∙ c.as_slice-letters.ensures ∙ c.args.x.now.lettered.spells.spells) (λ x b q k. search (rules, tests))

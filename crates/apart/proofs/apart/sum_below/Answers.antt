@@ -9,8 +9,8 @@ use Rattle.apart.proofs.apart.sum_below.Goals as goal
 
 pub overflow_add-sum : goal.overflow_add-sum
 overflow_add-sum c =
-    let n : length c.as_slice-letters.result.now ≡ c.args.x.letters.count = ap length c.as_slice-letters.ensures ∙ length_spelled c.args.x.letters in
-    omega (arith, c.share-sum.ensures.1, c.args.x.lettered.few)
+    let n : length c.as_slice-letters.result.now ≡ c.args.x.now.letters.count = ap length c.as_slice-letters.ensures ∙ length_spelled c.args.x.now.letters in
+    omega (arith, c.share-sum.ensures.1, c.args.x.now.lettered.few)
 
 pub loop-d-preserved : goal.loop-d-preserved
 loop-d-preserved c =
@@ -22,4 +22,4 @@ loop-d-preserved c =
 
 pub returns : goal.returns
 unfolding below
-returns c = rw (c.loop-d.invariant.0, take_all c.loop-d.d-index c.as_slice-letters.result.now (omega arith), c.as_slice-letters.ensures, c.args.x.lettered.spells.spells)
+returns c = rw (c.loop-d.invariant.0, take_all c.loop-d.d-index c.as_slice-letters.result.now (omega arith), c.as_slice-letters.ensures, c.args.x.now.lettered.spells.spells)

@@ -8,4 +8,4 @@ use Rattle.entries.proofs.inside.has_entries.Goals as goal
 
 pub returns : goal.returns
 unfolding has_entries
-returns c = slice_all _ c.all.ensures.ran (c.iter.ensures.rest ∙ c.as_slice-letters.ensures ∙ c.args.x.lettered.spells.spells) (λ x b q k. search (rules, tests))
+returns c = slice_all _ c.all.ensures.ran (c.iter.ensures.rest ∙ c.as_slice-letters.ensures ∙ c.args.x.now.lettered.spells.spells) (λ x b q k. search (rules, tests))

@@ -37,16 +37,16 @@ label x d extent word ok e f =
 
 pub with-reach-requires : goal.with-reach-requires
 with-reach-requires c =
-    let x = c.args.x in
-    let w = label x.axes c.from-c.result c.extent_of.result c.stride_of.result c.args.x.lettered.checked c.extent_of.ensures c.stride_of.ensures in
+    let x = c.args.x.now in
+    let w = label x.axes c.from-c.result c.extent_of.result c.stride_of.result c.args.x.now.lettered.checked c.extent_of.ensures c.stride_of.ensures in
     let n : length c.as_slice-letters.result.now ≡ x.letters.count = ap length c.as_slice-letters.ensures ∙ length_spelled x.letters in
-    (omega (arith, c.args.x.lettered.few, c.loop-c.invariant.2), omega (arith, c.args.x.lettered.few, c.loop-c.invariant.3), w.short, w.up_lt, w.down_lt)
+    (omega (arith, c.args.x.now.lettered.few, c.loop-c.invariant.2), omega (arith, c.args.x.now.lettered.few, c.loop-c.invariant.3), w.short, w.up_lt, w.down_lt)
 
 pub loop-c-preserved : goal.loop-c-preserved
 loop-c-preserved c =
     let l = c.loop-c in
     let letters = c.as_slice-letters.result.now in
-    let w = label c.args.x.axes c.from-c.result c.extent_of.result c.stride_of.result c.args.x.lettered.checked c.extent_of.ensures c.stride_of.ensures in
+    let w = label c.args.x.now.axes c.from-c.result c.extent_of.result c.stride_of.result c.args.x.now.lettered.checked c.extent_of.ensures c.stride_of.ensures in
     let e = c.extent_of.result in
     let s = signed 64 c.stride_of.result in (
       rw (take_more letters l.c-index 0 (omega arith), sum_of_behind, c.with-reach.ensures.0, w.extent_is, w.word_is, c.from-c.ensures, l.invariant.0) (add_comm _ _),
@@ -60,9 +60,9 @@ unfolding span
 returns c =
     let l = c.loop-c in
     let letters = c.as_slice-letters.result.now in
-    let n : length letters ≡ c.args.x.letters.count = ap length c.as_slice-letters.ensures ∙ length_spelled c.args.x.letters in (
-      rw (l.invariant.0, take_all l.c-index letters (omega arith), c.as_slice-letters.ensures, c.args.x.lettered.spells.spells),
-      rw (l.invariant.1, take_all l.c-index letters (omega arith), c.as_slice-letters.ensures, c.args.x.lettered.spells.spells),
-      omega (arith, c.args.x.lettered.few, l.invariant.2),
-      omega (arith, c.args.x.lettered.few, l.invariant.3),
+    let n : length letters ≡ c.args.x.now.letters.count = ap length c.as_slice-letters.ensures ∙ length_spelled c.args.x.now.letters in (
+      rw (l.invariant.0, take_all l.c-index letters (omega arith), c.as_slice-letters.ensures, c.args.x.now.lettered.spells.spells),
+      rw (l.invariant.1, take_all l.c-index letters (omega arith), c.as_slice-letters.ensures, c.args.x.now.lettered.spells.spells),
+      omega (arith, c.args.x.now.lettered.few, l.invariant.2),
+      omega (arith, c.args.x.now.lettered.few, l.invariant.3),
     )

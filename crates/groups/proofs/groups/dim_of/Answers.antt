@@ -6,4 +6,4 @@ use Rattle.groups.proofs.groups.dim_of.Goals as goal
 pub returns : goal.returns
 returns c =
     rw (c.extent.ensures, c.stride_of-in_d.ensures, c.stride_of.ensures, c.stride_of-2.ensures, c.stride_in_c.ensures)
-    (as_label_lem c.args.x c.args.c)
+    (as_label_lem c.args.x.now c.args.c)

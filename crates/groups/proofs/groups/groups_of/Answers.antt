@@ -6,7 +6,7 @@ use Rattle.groups.proofs.groups.groups_of.Goals as goal
 
 pub returns : goal.returns
 returns c =
-    let x = c.args.x in
+    let x = c.args.x.now in
     record {
       labels =
           kept_group x (λ o. (labelled_in x o).letters) (λ o. (labelled_in x o).lettered.spells) c.sets_of.result c.sets_of.ensures;

@@ -1,6 +1,7 @@
 -- `c_records` meets its contract: where C's layout begins here, it is what its records read as; else nothing is read.
 -- Assumes nothing.
 use mathlib.Core.Path.{refl, sym, ◌∙◌}
+use Rattle.std.proofs.Common.{rules}
 use Rattle.records.proofs.Reading.{goes_on, stops, passed_on}
 use Rattle.jobfile.specs.JobParts.{c_at}
 use Rattle.jobfile.proofs.reader.c_records.Goals as goal
@@ -20,4 +21,4 @@ pub returns : goal.returns
 unfolding c_at
 returns c =
     let read = c.in_ok-c.ensures in
-    rw (sym c.layout_begins.ensures ∙ c.if-not-layout_begins.false) (goes_on _ _ read (record { same = refl; sound = read.sound }))
+    rw (sym c.layout_begins.ensures ∙ c.if-not-layout_begins.false) (goes_on _ _ read (record { same = refl; sound = (search (rules, read.sound.0), read.sound.1) }))

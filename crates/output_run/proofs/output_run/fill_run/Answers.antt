@@ -67,7 +67,7 @@ loop-v-init c =
 pub depth_sum-sum-requires : goal.depth_sum-sum-requires
 depth_sum-sum-requires c =
     let l = c.loop-v in
-    subst (Readable (labels_in c.args.depth.now.walk.group) c.args.x.now.a.now c.args.x.now.b.now) (sym l.invariant.1) (c.requires.reads l._v (omega arith))
+    subst (Readable (labels_in c.args.depth.now.walk.group.now) c.args.x.now.a.now c.args.x.now.b.now) (sym l.invariant.1) (c.requires.reads l._v (omega arith))
 
 pub offset_bounds-d-place : goal.offset_bounds-d-place
 offset_bounds-d-place c =

@@ -13,4 +13,4 @@ use Rattle.output_run.proofs.output_run.fill_run.Given as goal
 abbrev pub invariant-loop-v : goal.invariant-loop-v
 invariant-loop-v l =
     (length l.d ≡ length l.initial.d) × (words_in l.at ≡ steps l.initial.at l.run.step l._v)
-    × (l.d ≡ each l._v (λ n. filled_of l.x (labels_in l.depth.walk.group) (steps l.initial.at l.run.step n)) l.initial.d)
+    × (l.d ≡ each l._v (λ n. filled_of l.x (labels_in l.depth.walk.group.now) (steps l.initial.at l.run.step n)) l.initial.d)

@@ -53,7 +53,7 @@ module _ (k : Contraction) (w : Slices) (e : first_no k w ≡ 0) where
   passed : AllPassed (tensors k) (lengths_in k w)
   passed = accepted_parts (tensors k) (lengths_in k w) e
 
-  -- what `folded` asks of a set of letters
+  -- what `fold_into` asks of a set of letters
   module _ (x : Operands) (r : Ready k x) where
     fold_needs : (set : ℕ) → (length (labels (together (shape_of x))) ≤ labels_limit) × Foldable (labels_where (shape_of x) (has set))
     fold_needs set = fold_asks k x r (all_foldable (tensors k) (lengths_in k w) passed) set
@@ -73,14 +73,20 @@ module _ (k : Contraction) (w : Slices) (e : first_no k w ≡ 0) where
           bases = b.bases;
         }
 
-  module _ (output deep : Group) (base : Offsets) (q : OutputPlanned (tensors k) output deep base) where
     -- what `walk_of` asks of the two groups
-    output_walks : (output.count ≤ labels_limit) × Foldable (labels_in output)
-    output_walks = (q.few_output, rw q.output (fold_foldable _ (outputs_foldable (tensors k) _ passed)))
+    output_walks : (output : Group) → (labels_in output ≡ fold (labels_where (shape_of x) (has x.d.letters.set))) × (output.count ≤ labels_limit)
+        → (output.count ≤ labels_limit) × Foldable (labels_in output)
+    output_walks output o =
+        let gives = fold_gives k x r (all_foldable (tensors k) (lengths_in k w) passed) in
+        (o.1, rw (gives x.d.letters.set outputs (kept_output x x.d.letters x.d.lettered.spells) (labels_in output) o.0) (fold_foldable _ (outputs_foldable (tensors k) _ passed)))
 
-    depth_walks : (deep.count ≤ labels_limit) × Foldable (labels_in deep)
-    depth_walks = (q.few_depth, rw q.depth (fold_foldable _ (group_foldable (tensors k) _ passed depth)))
+    depth_walks : (s : Sets) → Grouped (shape_of x) s → (deep : Group) → (labels_in deep ≡ fold (labels_where (shape_of x) (has s.depth))) × (deep.count ≤ labels_limit)
+        → (deep.count ≤ labels_limit) × Foldable (labels_in deep)
+    depth_walks s h deep d =
+        let gives = fold_gives k x r (all_foldable (tensors k) (lengths_in k w) passed) in
+        (d.1, rw (gives s.depth (λ s. group s depth) (h.labels depth) (labels_in deep) d.0) (fold_foldable _ (group_foldable (tensors k) _ passed depth)))
 
+  module _ (output deep : Group) (base : Offsets) (q : OutputPlanned (tensors k) output deep base) where
     -- what `fill` asks, and what it leaves
     module _ (outer inner : Walk) (ko : Walks (labels_in output) outer) (ki : Walks (labels_in deep) inner) (x : Option (Bor (List ℕ)))
         (has_c : (is_some x ≡ named k) × (named k ≡ true → words_of x ≡ w C)) where
@@ -101,39 +107,35 @@ returns-in_err-lists c =
     let w = four c.args.a.now c.args.b.now c.args.c.now c.args.d.now in
     call_refused c.args.k w c.in_err-lists.field-0.0 c.from_residual.result c.from_residual.ensures.1 (search rules)
 
-pub folded-output-requires : goal.folded-output-requires
-folded-output-requires c =
+pub fold_into-requires : goal.fold_into-requires
+fold_into-requires c =
     let k = c.args.k in
     let w = four c.args.a.now c.args.b.now c.args.c.now c.args.d.now in
     let e : first_no k w ≡ 0 = sym c.in_ok-lists.ensures.number in
-    fold_needs k w e _ c.in_ok-lists.ensures.lists _
+    let needs = fold_needs k w e _ c.in_ok-lists.ensures.lists _ in
+    (c.none-output.ensures.1, needs.0, needs.1)
 
-pub folded-depth-requires : goal.folded-depth-requires
-folded-depth-requires c =
+pub fold_into-requires-2 : goal.fold_into-requires-2
+fold_into-requires-2 c =
     let k = c.args.k in
     let w = four c.args.a.now c.args.b.now c.args.c.now c.args.d.now in
     let e : first_no k w ≡ 0 = sym c.in_ok-lists.ensures.number in
-    fold_needs k w e _ c.in_ok-lists.ensures.lists _
+    let needs = fold_needs k w e _ c.in_ok-lists.ensures.lists _ in
+    (c.none-depth.ensures.1, needs.0, needs.1)
 
 pub walk_of-requires : goal.walk_of-requires
 walk_of-requires c =
     let k = c.args.k in
     let w = four c.args.a.now c.args.b.now c.args.c.now c.args.d.now in
     let e : first_no k w ≡ 0 = sym c.in_ok-lists.ensures.number in
-    let q =
-    walked k w e _ c.in_ok-lists.ensures.lists c.groups_of-sets.result c.groups_of-sets.ensures c.folded-output.result c.folded-depth.result
-    c.base_of.result c.folded-output.ensures c.folded-depth.ensures c.base_of.ensures in
-    output_walks k w e _ _ _ q
+    output_walks k w e _ c.in_ok-lists.ensures.lists c.fold_into.new.out c.fold_into.ensures
 
 pub walk_of-requires-2 : goal.walk_of-requires-2
 walk_of-requires-2 c =
     let k = c.args.k in
     let w = four c.args.a.now c.args.b.now c.args.c.now c.args.d.now in
     let e : first_no k w ≡ 0 = sym c.in_ok-lists.ensures.number in
-    let q =
-    walked k w e _ c.in_ok-lists.ensures.lists c.groups_of-sets.result c.groups_of-sets.ensures c.folded-output.result c.folded-depth.result
-    c.base_of.result c.folded-output.ensures c.folded-depth.ensures c.base_of.ensures in
-    depth_walks k w e _ _ _ q
+    depth_walks k w e _ c.in_ok-lists.ensures.lists c.groups_of-sets.result c.groups_of-sets.ensures c.fold_into-2.new.out c.fold_into-2.ensures
 
 pub fill-requires : goal.fill-requires
 fill-requires c =
@@ -141,8 +143,8 @@ fill-requires c =
     let w = four c.args.a.now c.args.b.now c.args.c.now c.args.d.now in
     let e : first_no k w ≡ 0 = sym c.in_ok-lists.ensures.number in
     let q =
-    walked k w e _ c.in_ok-lists.ensures.lists c.groups_of-sets.result c.groups_of-sets.ensures c.folded-output.result c.folded-depth.result
-    c.base_of.result c.folded-output.ensures c.folded-depth.ensures c.base_of.ensures in
+    walked k w e _ c.in_ok-lists.ensures.lists c.groups_of-sets.result c.groups_of-sets.ensures c.fold_into.new.out c.fold_into-2.new.out
+    c.base_of.result c.fold_into.ensures c.fold_into-2.ensures c.base_of.ensures in
     fill_asks k w e _ _ _ q c.walk_of.result c.walk_of-2.result c.walk_of.ensures c.walk_of-2.ensures c.and.result (handed k.c c.args.c c.and.ensures)
 
 pub returns : goal.returns
@@ -151,7 +153,7 @@ returns c =
     let w = four c.args.a.now c.args.b.now c.args.c.now c.args.d.now in
     let e : first_no k w ≡ 0 = sym c.in_ok-lists.ensures.number in
     let q =
-    walked k w e _ c.in_ok-lists.ensures.lists c.groups_of-sets.result c.groups_of-sets.ensures c.folded-output.result c.folded-depth.result
-    c.base_of.result c.folded-output.ensures c.folded-depth.ensures c.base_of.ensures in
+    walked k w e _ c.in_ok-lists.ensures.lists c.groups_of-sets.result c.groups_of-sets.ensures c.fold_into.new.out c.fold_into-2.new.out
+    c.base_of.result c.fold_into.ensures c.fold_into-2.ensures c.base_of.ensures in
     ap (plain_call_of plain_done) (c.fill.ensures ∙ fill_leaves k w e _ _ _ q c.walk_of.result c.walk_of-2.result c.walk_of.ensures c.walk_of-2.ensures c.and.result (handed k.c c.args.c c.and.ensures))
     ∙ call_done k w e

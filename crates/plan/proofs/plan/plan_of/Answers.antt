@@ -14,10 +14,10 @@ use Rattle.plan.proofs.plan.plan_of.Goals.{After-groups_of-sets}
 use Rattle.plan.proofs.plan.plan_of.Goals as goal
 
 gives : (c : After-groups_of-sets) (g : Group) (r : GroupCode)
-    → labels_in r ≡ fold (labels_where (shape_of c.args.x) (has (sets_in c.groups_of-sets.result g)))
-    → labels_in r ≡ fold (group (shape (tensors c.args.c)) g)
+    → labels_in r ≡ fold (labels_where (shape_of c.args.x.now) (has (sets_in c.groups_of-sets.result g)))
+    → labels_in r ≡ fold (group (shape (tensors c.args.c.now)) g)
 gives c g r e =
-    fold_gives c.args.c c.args.x c.requires.0 c.requires.1 (sets_in c.groups_of-sets.result g) (λ s. group s g) (c.groups_of-sets.ensures.labels g) (labels_in r) e
+    fold_gives c.args.c.now c.args.x.now c.requires.0 c.requires.1 (sets_in c.groups_of-sets.result g) (λ s. group s g) (c.groups_of-sets.ensures.labels g) (labels_in r) e
 
 pub returns : goal.returns
 returns c =

@@ -17,7 +17,7 @@ use Rattle.points.proofs.label_questions.extents_agree.Goals as goal
 pub returns : goal.returns
 unfolding extents_agree together
 returns c =
-    let x = c.args.x in
+    let x = c.args.x.now in
     let s = shape_of x in
     let p : Axis → Bool = λ a. eqb a.extent (extent_of a.letter (together s)) in
     rw (c.extents_as-d.ensures, c.extents_as.ensures, c.extents_as-2.ensures, c.extents_as_c.ensures)

@@ -9,9 +9,9 @@ use Rattle.points.proofs.label_questions.letters_same.Goals as goal
 pub returns-in-Some : goal.returns-in-Some
 unfolding letters_same
 returns-in-Some c =
-    let x = c.args.x in
+    let x = c.args.x.now in
     let l = c.in-Some.c in
     rw (c.in-Some.is, c.letters_in.ensures ∙ among_set l x.d, c.letters_in-in-Some.ensures ∙ among_set x.d l)
 
 pub returns-in-None : goal.returns-in-None
-returns-in-None c = rw (c.in-None.is) (sym (same_itself (listed c.args.x.d.axes)))
+returns-in-None c = rw (c.in-None.is) (sym (same_itself (listed c.args.x.now.d.axes)))

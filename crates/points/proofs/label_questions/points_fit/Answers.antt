@@ -53,8 +53,8 @@ loop-c-preserved c =
     let l = c.loop-c in
     let letters = c.as_slice-letters.result.now in
     let d = get_or letters l.c-index 0 in
-    let n = extent_of d (together (shape_of c.args.x)) in
-    let f = λ (e : ℕ). max 1 (extent_of e (together (shape_of c.args.x))) in
+    let n = extent_of d (together (shape_of c.args.x.now)) in
+    let f = λ (e : ℕ). max 1 (extent_of e (together (shape_of c.args.x.now))) in
     rw (
       take_more letters l.c-index 0 (omega arith),
       product_behind f (take l.c-index letters) d,
@@ -73,4 +73,4 @@ unfolding points_fit points
 returns c =
     let l = c.loop-c in
     let letters = c.as_slice-letters.result.now in
-    rw (l.invariant, take_all l.c-index letters (omega arith), c.as_slice-letters.ensures, c.args.x.gathered.all.spells) (cut_test product_limit (points (together (shape_of c.args.x))))
+    rw (l.invariant, take_all l.c-index letters (omega arith), c.as_slice-letters.ensures, c.args.x.now.gathered.all.spells) (cut_test product_limit (points (together (shape_of c.args.x.now))))

@@ -3,7 +3,7 @@
 use Rattle.std.proofs.Common.{◌≡◌, ◌+◌, refl, sym, ◌∙◌}
 use borrow.Author.Tests.{leb-true, le-leb, lt-leb}
 use Rattle.little_endian.proofs.Little.{little_byte}
-use Rattle.marks.specs.Marks.{letter, is_layout}
+use Rattle.marks.specs.Marks.{is_layout}
 use Rattle.records.specs.Records.{rank_at, layout_record}
 use Rattle.records.proofs.Reading.{yes, no, refused, passed_on, marked, unmarked, layout_held}
 use Rattle.records.proofs.records.layout_record.Goals as goal
@@ -14,12 +14,12 @@ returns-in_err-kind c = no _ c.in_err-kind.ensures.1 (passed_on _ c.from_residua
 
 pub returns-then-not-is_layout : goal.returns-then-not-is_layout
 unfolding layout_record
-returns-then-not-is_layout c = unmarked _ (is_layout (letter c.args.tensor)) c.in_ok-kind.ensures _ c.if-not-is_layout.ensures refused
+returns-then-not-is_layout c = unmarked _ (is_layout c.args.letter) c.in_ok-kind.ensures _ c.if-not-is_layout.ensures refused
 
 pub returns-in_err-need : goal.returns-in_err-need
 unfolding layout_record
 returns-in_err-need c =
-    marked _ (is_layout (letter c.args.tensor)) c.in_ok-kind.ensures c.if-not-is_layout.ensures
+    marked _ (is_layout c.args.letter) c.in_ok-kind.ensures c.if-not-is_layout.ensures
     (no _ c.in_err-need.ensures.1 (passed_on _ c.from_residual-in_err-need.ensures.1 c.in_err-need.ensures.0))
 
 pub returns-then-rank-gt-RANK : goal.returns-then-rank-gt-RANK
@@ -27,7 +27,7 @@ unfolding layout_record
 returns-then-rank-gt-RANK c =
     let x = c.args in
     let rank : rank_at x.file.now x.from.at ≡ c.from-rank.result = little_byte x.file.now (x.from.at + 2) ∙ sym c.from-rank.ensures in
-    marked _ (is_layout (letter c.args.tensor)) c.in_ok-kind.ensures c.if-not-is_layout.ensures
+    marked _ (is_layout c.args.letter) c.in_ok-kind.ensures c.if-not-is_layout.ensures
     (yes _ c.in_ok-need.ensures
     (rw rank (no _ (lt-leb _ _ c.if-rank-gt-RANK.true) refused)))
 
@@ -36,7 +36,7 @@ unfolding layout_record
 returns-in_err-need-2 c =
     let x = c.args in
     let rank : rank_at x.file.now x.from.at ≡ c.from-rank.result = little_byte x.file.now (x.from.at + 2) ∙ sym c.from-rank.ensures in
-    marked _ (is_layout (letter c.args.tensor)) c.in_ok-kind.ensures c.if-not-is_layout.ensures
+    marked _ (is_layout c.args.letter) c.in_ok-kind.ensures c.if-not-is_layout.ensures
     (yes _ c.in_ok-need.ensures
     (rw rank
     (yes _ (le-leb _ _ c.if-rank-gt-RANK.false)
@@ -48,7 +48,7 @@ returns c =
     let x = c.args in
     let rank : rank_at x.file.now x.from.at ≡ c.from-rank.result = little_byte x.file.now (x.from.at + 2) ∙ sym c.from-rank.ensures in
     let whole = leb-true _ _ c.in_ok-need-2.ensures in
-    marked _ (is_layout (letter c.args.tensor)) c.in_ok-kind.ensures c.if-not-is_layout.ensures
+    marked _ (is_layout c.args.letter) c.in_ok-kind.ensures c.if-not-is_layout.ensures
     (yes _ c.in_ok-need.ensures
     (rw rank
     (yes _ (le-leb _ _ c.if-rank-gt-RANK.false)

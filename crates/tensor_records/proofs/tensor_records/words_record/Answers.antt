@@ -4,7 +4,7 @@ use Rattle.std.proofs.Common.{◌≡◌, ℕ, Bool, not, refl, sym, ap, ◌∙�
 use borrow.Author.Tests.{leb-true, le-leb, lt-leb}
 use lib.Dec.{eqb}
 use Rattle.marks.specs.declared.marks.Kind.{Kind}
-use Rattle.marks.specs.Marks.{letter, word_width}
+use Rattle.marks.specs.Marks.{word_width}
 use Rattle.records.specs.Records.{width_at, count_at, words_record}
 use Rattle.records.proofs.Reading.{yes, no, refused, passed_on, marked, unmarked, width_found, width_missing, wide_of, words_held}
 use Rattle.tensor_records.proofs.tensor_records.words_record.Goals as goal
@@ -20,7 +20,7 @@ returns-in_err-kind c = no _ c.in_err-kind.ensures.1 (passed_on _ c.from_residua
 pub returns-in_err-width : goal.returns-in_err-width
 unfolding words_record
 returns-in_err-width c =
-    let t = letter c.args.tensor in
+    let t = c.args.letter in
     let missing = width_missing _ (word_width t c.in_ok-kind.kind) c.word_width.ensures c.in_err-width.ensures.value in
     unmarked _ (wide t) c.in_ok-kind.ensures _ missing.0 (passed_on _ c.from_residual-in_err-width.ensures.1 missing.1)
 
@@ -28,7 +28,7 @@ pub returns-in_err-need : goal.returns-in_err-need
 unfolding words_record
 returns-in_err-need c =
     let x = c.args in
-    let t = letter x.tensor in
+    let t = x.letter in
     let found = width_found _ (word_width t c.in_ok-kind.kind) c.word_width.ensures c.in_ok-width.ensures.value in
     let width : width_at x.file.now t x.from.at ≡ c.in_ok-width.width = ap (word_width t) (sym c.in_ok-kind.ensures.1) ∙ found.0 in
     marked _ (wide t) c.in_ok-kind.ensures found.1 (no _ c.in_err-need.ensures.1 (passed_on _ c.from_residual-in_err-need.ensures.1 c.in_err-need.ensures.0))
@@ -37,7 +37,7 @@ pub returns-then-count-gt-JOB : goal.returns-then-count-gt-JOB
 unfolding words_record
 returns-then-count-gt-JOB c =
     let x = c.args in
-    let t = letter x.tensor in
+    let t = x.letter in
     let found = width_found _ (word_width t c.in_ok-kind.kind) c.word_width.ensures c.in_ok-width.ensures.value in
     let width : width_at x.file.now t x.from.at ≡ c.in_ok-width.width = ap (word_width t) (sym c.in_ok-kind.ensures.1) ∙ found.0 in
     let count : count_at x.file.now x.from.at ≡ c.four_bytes-count.result = sym c.four_bytes-count.ensures in
@@ -49,7 +49,7 @@ pub returns-in_err-need-2 : goal.returns-in_err-need-2
 unfolding words_record
 returns-in_err-need-2 c =
     let x = c.args in
-    let t = letter x.tensor in
+    let t = x.letter in
     let found = width_found _ (word_width t c.in_ok-kind.kind) c.word_width.ensures c.in_ok-width.ensures.value in
     let width : width_at x.file.now t x.from.at ≡ c.in_ok-width.width = ap (word_width t) (sym c.in_ok-kind.ensures.1) ∙ found.0 in
     let count : count_at x.file.now x.from.at ≡ c.four_bytes-count.result = sym c.four_bytes-count.ensures in
@@ -63,7 +63,7 @@ pub returns : goal.returns
 unfolding words_record
 returns c =
     let x = c.args in
-    let t = letter x.tensor in
+    let t = x.letter in
     let found = width_found _ (word_width t c.in_ok-kind.kind) c.word_width.ensures c.in_ok-width.ensures.value in
     let width : width_at x.file.now t x.from.at ≡ c.in_ok-width.width = ap (word_width t) (sym c.in_ok-kind.ensures.1) ∙ found.0 in
     let count : count_at x.file.now x.from.at ≡ c.four_bytes-count.result = sym c.four_bytes-count.ensures in

@@ -64,7 +64,7 @@ tiles_counted : (t n : ℕ) → length (tiles_from t n) ≡ n
 unfolding tiles_from
 tiles_counted t n = length_tabulate n (λ k. t + k)
 
--- n is the number that `Accept::of` answered, k that of `tile_refusal`
+-- n is the number that `accepted` answered, k that of `tile_refusal`
 module _ (c : Contraction) (z : Sizes) (w : Slices) {n : ℕ} (e : n ≡ refusal (layout_questions (tensors c) (lengths_in c w) ++ size_question z)) (y : n ≡ 0)
     (p : Plan) (q : Planned (tensors c) p) (g : Grid) (o : GridOf p g × (g.sizes ≡ z)) (work : List ℕ) (t : ℕ)
     {k : ℕ} (r : k ≡ refusal (room_question g.sizes (length work) ++ done_question (cut_in g) t)) where
@@ -133,43 +133,47 @@ handed : (t : ℕ) (d work : List ℕ) (e : Refusal) (r : Result Ran Refusal) �
     → tile_call_of (tile_answer t r) d work ≡ tile_call_of (tile_refused (number e) t) d work
 handed t d work e r h = ap (λ (x : Result Ran Refusal). tile_call_of (tile_answer t x) d work) (errs r h)
 
-pub returns-in_err-x : goal.returns-in_err-x
-returns-in_err-x c =
+pub returns-in_err-lists : goal.returns-in_err-lists
+returns-in_err-lists c =
     let x = c.args in
     let w = four c.args.a.now c.args.b.now c.args.c.now c.args.d.now in
-    handed x.done x.d.now x.work.now c.in_err-x.field-0.0 c.from_residual.result c.from_residual.ensures.1
-    ∙ tile_early x.k x.z w x.work.now x.done x.budget (asked x.k x.z w c.in_err-x.ensures.number) (not_0 c.in_err-x.field-0.0)
+    handed x.done x.d.now x.work.now c.in_err-lists.field-0.0 c.from_residual.result c.from_residual.ensures.1
+    ∙ tile_early x.k x.z w x.work.now x.done x.budget (asked x.k x.z w c.in_err-lists.ensures.number) (not_0 c.in_err-lists.field-0.0)
 
 pub returns-in_err-tile_refusal : goal.returns-in_err-tile_refusal
 returns-in_err-tile_refusal c =
-    let r = c.in_ok-x in
+    let r = c.in_ok-lists in
+    let y = c.from_lists-x in
     let x = c.args in
     handed x.done x.d.now x.work.now c.in_err-tile_refusal.field-0.0 c.from_residual-in_err-tile_refusal.result c.from_residual-in_err-tile_refusal.ensures.1
     ∙ late_no x.k x.z (four c.args.a.now c.args.b.now c.args.c.now c.args.d.now) r.ensures.number refl
-    r.x.plan r.ensures.planned.plan r.x.grid r.ensures.planned.grid x.work.now x.done
+    y.result.plan y.ensures.plan y.result.grid y.ensures.grid x.work.now x.done
     c.in_err-tile_refusal.ensures x.budget (not_0 c.in_err-tile_refusal.field-0.0)
 
 pub overflow_sub-left : goal.overflow_sub-left
 overflow_sub-left c =
-    let r = c.in_ok-x in
+    let r = c.in_ok-lists in
+    let y = c.from_lists-x in
     let x = c.args in
     t_below x.k x.z (four c.args.a.now c.args.b.now c.args.c.now c.args.d.now) r.ensures.number refl
-    r.x.plan r.ensures.planned.plan r.x.grid r.ensures.planned.grid x.work.now x.done
+    y.result.plan y.ensures.plan y.result.grid y.ensures.grid x.work.now x.done
     c.in_ok-tile_refusal.ensures refl
 
 pub run_tiles-t-requires : goal.run_tiles-t-requires
 run_tiles-t-requires c =
-    let r = c.in_ok-x in
+    let r = c.in_ok-lists in
+    let y = c.from_lists-x in
     let x = c.args in
     run_asks x.k x.z (four c.args.a.now c.args.b.now c.args.c.now c.args.d.now) r.ensures.number refl
-    r.x.plan r.ensures.planned.plan r.x.grid r.ensures.planned.grid x.work.now x.done
+    y.result.plan y.ensures.plan y.result.grid y.ensures.grid x.work.now x.done
     c.in_ok-tile_refusal.ensures refl x.budget _ c.min-count.ensures x.c refl (c.then_some.ensures ∙ ap (λ (b : Bool). then_some b x.c) c.is_some.ensures)
 
 pub returns : goal.returns
 returns c =
-    let r = c.in_ok-x in
+    let r = c.in_ok-lists in
+    let y = c.from_lists-x in
     let x = c.args in
     all_ran x.k x.z (four c.args.a.now c.args.b.now c.args.c.now c.args.d.now) r.ensures.number refl
-    r.x.plan r.ensures.planned.plan r.x.grid r.ensures.planned.grid x.work.now x.done
+    y.result.plan y.ensures.plan y.result.grid y.ensures.grid x.work.now x.done
     c.in_ok-tile_refusal.ensures refl x.budget _ c.min-count.ensures x.c refl (c.then_some.ensures ∙ ap (λ (b : Bool). then_some b x.c) c.is_some.ensures)
     c.run_tiles-t.ensures.0 c.run_tiles-t.ensures.1 c.run_tiles-t.ensures.2

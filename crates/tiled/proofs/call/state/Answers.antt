@@ -31,7 +31,7 @@ use Rattle.accept.proofs.Accepted.{none_refused, grid_cut}
 use Rattle.tiled.proofs.TileAnswered.{state_early, state_late, state_found}
 use Rattle.tiled.proofs.call.state.Goals as goal
 
--- n is the number that `Accept::of` answered; questions 12 and 13 are asked of the grid's cut, which is the contraction's
+-- n is the number that `accepted` answered; questions 12 and 13 are asked of the grid's cut, which is the contraction's
 module _ (c : Contraction) (z : Sizes) (w : Slices) {n : ℕ} (e : n ≡ refusal (layout_questions (tensors c) (lengths_in c w) ++ size_question z)) (y : n ≡ 0)
     (p : Plan) (q : Planned (tensors c) p) (g : Grid) (o : GridOf p g × (g.sizes ≡ z)) (t h i j : ℕ)
     {k : ℕ} (r : k ≡ refusal (done_question (cut_in g) t ++ index_question (cut_in g) h i j)) where
@@ -57,35 +57,38 @@ module _ (c : Contraction) (z : Sizes) (w : Slices) {n : ℕ} (e : n ≡ refusal
   found : {s : State} → k ≡ 0 → s ≡ state_at (cut_in g) t h i j → is s ≡ state_call c z w t h i j
   found x f = ap is (f ∙ ap (λ (G : Cut). state_at G t h i j) cut) ∙ state_found c z w t h i j (none_refused c z w e y) late x
 
-pub returns-in_err-x : goal.returns-in_err-x
-returns-in_err-x c =
+pub returns-in_err-lists : goal.returns-in_err-lists
+returns-in_err-lists c =
     let x = c.args in
     let w = four c.args.a.now c.args.b.now c.args.c.now c.args.d.now in
     ap state_answer (errs c.from_residual.result c.from_residual.ensures.1)
-    ∙ state_early x.k x.z w x.done x.h x.i x.j (asked x.k x.z w c.in_err-x.ensures.number) (not_0 c.in_err-x.field-0.0)
+    ∙ state_early x.k x.z w x.done x.h x.i x.j (asked x.k x.z w c.in_err-lists.ensures.number) (not_0 c.in_err-lists.field-0.0)
 
 pub returns-in_err-state_refusal : goal.returns-in_err-state_refusal
 returns-in_err-state_refusal c =
-    let r = c.in_ok-x in
+    let r = c.in_ok-lists in
+    let y = c.from_lists-x in
     let x = c.args in
     ap state_answer (errs c.from_residual-in_err-state_refusal.result c.from_residual-in_err-state_refusal.ensures.1)
     ∙ late_no x.k x.z (four c.args.a.now c.args.b.now c.args.c.now c.args.d.now) r.ensures.number refl
-    r.x.plan r.ensures.planned.plan r.x.grid r.ensures.planned.grid x.done x.h x.i x.j
+    y.result.plan y.ensures.plan y.result.grid y.ensures.grid x.done x.h x.i x.j
     c.in_err-state_refusal.ensures (not_0 c.in_err-state_refusal.field-0.0)
 
 pub state-requires : goal.state-requires
 state-requires c =
-    let r = c.in_ok-x in
+    let r = c.in_ok-lists in
+    let y = c.from_lists-x in
     let x = c.args in
     let inside = index_inside x.k x.z (four c.args.a.now c.args.b.now c.args.c.now c.args.d.now) r.ensures.number refl
-    r.x.plan r.ensures.planned.plan r.x.grid r.ensures.planned.grid x.done x.h x.i x.j
+    y.result.plan y.ensures.plan y.result.grid y.ensures.grid x.done x.h x.i x.j
     c.in_ok-state_refusal.ensures refl in
-    (r.ensures.planned.grid.0.counted, inside.0, inside.1, inside.2)
+    (y.ensures.grid.0.counted, inside.0, inside.1, inside.2)
 
 pub returns : goal.returns
 returns c =
-    let r = c.in_ok-x in
+    let r = c.in_ok-lists in
+    let y = c.from_lists-x in
     let x = c.args in
     found x.k x.z (four c.args.a.now c.args.b.now c.args.c.now c.args.d.now) r.ensures.number refl
-    r.x.plan r.ensures.planned.plan r.x.grid r.ensures.planned.grid x.done x.h x.i x.j
+    y.result.plan y.ensures.plan y.result.grid y.ensures.grid x.done x.h x.i x.j
     c.in_ok-state_refusal.ensures refl c.state.ensures

@@ -23,6 +23,6 @@ behind None d a b n m r e f =
 pub returns : goal.returns
 unfolding together
 returns c =
-    let x = c.args.self in
+    let x = c.args.self.now in
     behind x.c x.d (listed x.a.axes) (listed x.b.axes) c.args.c c.extent_in_c.result c.extent_or-3.result c.extent_in_c.ensures
     (λ ys e. c.extent_or-3.ensures _ (c.extent_or-2.ensures _ (c.extent_or.ensures ys e)))
