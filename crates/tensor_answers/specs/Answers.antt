@@ -31,3 +31,8 @@ Passed l n = refusal (tensor_questions (record { layout = l; words = n } ∷ [])
 pub record PassedOf (l : Layout) (n : ℕ) (x : Asked) : Type 0 where
   pub lists : ListOf l x.lists
   pub inside : x.inside ≡ entries_inside (record { layout = l; words = n } ∷ [])
+
+-- a tensor's own answer: the first of questions 1 to 5 that it fails, or what it leaves
+pub record AskedOf (l : Layout) (n : ℕ) (r : Result Asked Refusal) : Type 0 where
+  pub number : status r ≡ refusal (tensor_questions (record { layout = l; words = n } ∷ []))
+  pub passed : IfOk r (PassedOf l n)

@@ -1,4 +1,4 @@
-ghost use Rattle.tensor_answers.specs.Answers.{BothOf, OwnOf, Passed, PassedOf};
+ghost use Rattle.tensor_answers.specs.Answers.{BothOf, OwnOf, Passed, PassedOf, AskedOf};
 
 use entries::inside::all_inside;
 use labels::labelled::Labelled;
@@ -54,6 +54,57 @@ impl Asked {
         Asked {
             lists,
             inside: all_inside(&lists, l.base, length),
+        }
+    }
+
+    // Both at once: the first of questions 1 to 5 that a tensor fails, or what it leaves.
+    pub fn of(l: Layout, length: usize) -> Result<Asked, Refusal>
+        ensures { AskedOf l length result }
+    {
+        own_refusal(&l, length)?;
+        Ok(Asked::left_by(&l, length))
+    }
+}
+
+#[cfg(test)]
+mod tests {
+    use super::*;
+
+    // The number that refuses a tensor; of one that passes 100 where its entries are inside its slice, and 101 where they are not.
+    fn answer(l: Layout, length: usize) -> u32 {
+        match Asked::of(l, length) {
+            Ok(asked) => 101 - u32::from(asked.inside),
+            Err(refusal) => u32::from(refusal),
+        }
+    }
+
+    #[test]
+    fn one_tensor(rt: HostRuntime) {
+        let matrix = Layout::new(b"ik", &[2, 3], &[1, 2], 1);
+        assert_eq!(rt; answer(matrix, 7), 100, "its last entry is word 6");
+        assert_eq!(rt; answer(matrix, 6), 101, "one word is missing");
+        assert_eq!(rt;
+            answer(matrix, 16777217),
+            5,
+            "a slice of more than 2^24 words"
+        );
+        let many = Layout::new(b"abcdefghi", &[1, 1, 1, 1, 1, 1, 1, 1, 1], &[1], 0);
+        assert_eq!(rt; answer(many, 1), 1, "nine letters, and one stride");
+        let counts = Layout::new(b"i1", &[2], &[1, 2], 0);
+        assert_eq!(rt; answer(counts, 9), 2, "two letters and one extent");
+        let letters = Layout::new(b"i1", &[2, 65537], &[1, 2], 0);
+        assert_eq!(rt;
+            answer(letters, 9),
+            3,
+            "a digit for a letter, and an extent too large"
+        );
+        let extents = Layout::new(b"ik", &[2, 65537], &[1, 16777217], 0);
+        assert_eq!(rt; answer(extents, 9), 4, "an extent and a stride too large");
+        let strides = Layout::new(b"ik", &[2, 3], &[1, -16777217], 0);
+        assert_eq!(rt; answer(strides, 9), 5, "a stride too far down");
+        if let Ok(asked) = Asked::of(matrix, 7) {
+            assert_eq!(rt; asked.lists.axes.count, 2, "two axes");
+            assert_eq!(rt; asked.lists.letters.count, 2, "two letters");
         }
     }
 }
